@@ -1,0 +1,38 @@
+-- A loop `for i in a..b` that folds f: its invariant as a record, and the laws that the loop's needs ask.
+use mathlib.Core.Path.{_≡_, refl, ap, _∙_, sym}
+use Prim.Native.Nat.{ℕ, zero, suc, _+_, _-_, _≤_, _<_}
+use native.Mathlib.Nat.{le-antisymm, sub-self}
+use native.Mathlib.Omega.{arith}
+use Rattle.real.specs.Fold.{turns, range}
+
+-- s is the fold of the turns a to i - 1, of those up to b - 1, from s₀
+pub record Range {S : Type 0} (f : ℕ → S → S) (s₀ : S) (a b i : ℕ) (s : S) : Type 0 where
+  pub low : a ≤ i
+  pub high : i ≤ b
+  pub is : s ≡ range f a i s₀
+
+module _ {S : Type 0} {f : ℕ → S → S} {s₀ : S} {a b : ℕ} where
+  pub none : a ≤ b → Range f s₀ a b a s₀
+  unfolding range turns
+  none h = record { low = omega arith; high = h; is = sym (rw sub-self) }
+
+  pub more : {i : ℕ} {s t : S} → Range f s₀ a b i s → i < b → t ≡ f i s → Range f s₀ a b (i + 1) t
+  unfolding range turns
+  more {i} r h step =
+      let k : i + 1 - a ≡ suc (i - a) = omega arith in
+      let at : a + (i - a) ≡ i = omega arith in
+      record { low = omega arith; high = omega arith; is = rw (k, at) (step ∙ ap (f i) (r .is)) }
+
+  pub done : {i : ℕ} {s : S} → Range f s₀ a b i s → b ≤ i → s ≡ range f a b s₀
+  done r h = r .is ∙ ap (λ (k : ℕ). range f a k s₀) (le-antisymm (r .high) h)
+
+-- what holds at the start and is kept by each turn holds of the fold
+module _ {S : Type 0} (f : ℕ → S → S) (a b : ℕ) (P : S → Type 0) (keep : (k : ℕ) (s : S) → k < b → P s → P (f k s)) where
+  kept-turns : (n : ℕ) (s : S) → a + n ≤ b → P s → P (turns f a n s)
+  unfolding turns
+  kept-turns zero s h p = p
+  kept-turns (suc n) s h p = keep (a + n) _ (omega arith) (kept-turns n s (omega arith) p)
+
+  pub kept : (s : S) → a ≤ b → P s → P (range f a b s)
+  unfolding range
+  kept s h p = kept-turns (b - a) s (omega arith) p
