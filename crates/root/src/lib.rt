@@ -1,0 +1,215 @@
+// The square root of an f64, correctly rounded: Rust's `f64::sqrt`, in integers.
+//
+// A positive finite x is n * 2^-1074. `split` takes n apart into a significand a of 53 or 54 digits and half the length of n;
+// `quick` finds the number of 53 digits nearest to the root of a * 2^52; `positive` puts the result's pattern together.
+ghost use mathlib.Core.Path.{_≡_};
+ghost use mathlib.Core.Bool.{true};
+ghost use Prim.Native.Nat.{_+_, _*_, _^_, _-_, _≤_, _<_, compare};
+ghost use lib.Ieee.{lt, nearest};
+ghost use Rattle.root.specs.Root.{root, rootUnits, inUnits, zero64, inf64, nearestRoot, Rooted, Parted, Halved, unitsOfBits};
+
+// The whole root of a number and what is left: q * q + rem is the number.
+struct Root {
+    q: u64,
+    rem: u64,
+}
+
+// The whole root of a * 2^52, digit by digit: c holds the digits of a that are not used yet, as 54 places.
+fn digits(a: u64) -> Root
+    requires { ⌜ a < 2 ^ 54 ⌝ }
+    ensures { λ r. ⌜ Rooted (a * 2 ^ 52) (r .q) (r .rem) ⌝ }
+{
+    let mut q = 0u64;
+    let mut rem = 0u64;
+    let mut c = a;
+    for i in 0..53u64 {
+        let next = rem * 4 + c / 0x10_0000_0000_0000;
+        c = c % 0x10_0000_0000_0000 * 4;
+        let t = q * 4 + 1;
+        if t <= next {
+            rem = next - t;
+            q = q * 2 + 1;
+        } else {
+            rem = next;
+            q = q * 2;
+        }
+    }
+    Root { q, rem }
+}
+
+// The leading digits of a number, 53 or 54 of them, and half its length in digits.
+struct Parts {
+    a: u64,
+    h: u64,
+}
+
+// The parts of a number of `size` digits, the first 53 of which are `sig`: an even length leaves one digit more in a.
+fn halved(sig: u64, size: u64) -> Parts
+    requires { ⌜ (size < 2099) × (2 ^ 52 ≤ sig) × (sig < 2 ^ 53) ⌝ }
+    ensures { λ r. ⌜ Halved sig size (r .a) (r .h) ⌝ }
+{
+    let h = (size + 1) / 2;
+    if size % 2 == 1 {
+        Parts { a: sig, h }
+    } else {
+        Parts { a: sig * 2, h }
+    }
+}
+
+// The parts of the number of units of 2^-1074 in the positive finite f64 with the pattern b. A subnormal is shifted by its
+// leading zeros, and a normal number has its leading digit put back.
+fn split(b: u64) -> Parts
+    requires { ⌜ 0 < b ⌝ }
+    requires { ⌜ b < 2047 * 2 ^ 52 ⌝ }
+    ensures { λ r. ⌜ Parted (unitsOfBits b) (r .a) (r .h) ⌝ }
+{
+    let field = b / 0x10_0000_0000_0000;
+    if field == 0 {
+        let z = u64::leading_zeros(b);
+        halved(b << (z - 11), 64 - z as u64)
+    } else {
+        halved(0x10_0000_0000_0000 + b % 0x10_0000_0000_0000, field + 52)
+    }
+}
+
+// The number nearest to the root of a * 2^52, from the whole root and what is left: the root lies above q + 1/2 where q < rem.
+fn rounded(r: Root, a: u64) -> u64
+    requires { ⌜ Rooted (a * 2 ^ 52) (r .q) (r .rem) ⌝ }
+    requires { ⌜ (2 ^ 52 ≤ a) × (a < 2 ^ 54 - 1) ⌝ }
+    ensures { λ q. ⌜ q ≡ nearestRoot (a * 2 ^ 52) ⌝ }
+{
+    if r.q < r.rem { r.q + 1 } else { r.q }
+}
+
+// The number nearest to the root of a * 2^52, digit by digit: right for every a, and slow.
+fn plain(a: u64) -> u64
+    requires { ⌜ (2 ^ 52 ≤ a) × (a < 2 ^ 54 - 1) ⌝ }
+    ensures { λ q. ⌜ q ≡ nearestRoot (a * 2 ^ 52) ⌝ }
+{
+    rounded(digits(a), a)
+}
+
+// A guess at the root of a / 2^52, in floats: a polynomial within one part in 14,000, and two steps of Newton's
+// iteration. Its contract claims nothing of it, since `settle` judges it.
+fn guess(a: u64) -> f64
+    requires { ⌜ (2 ^ 52 ≤ a) × (a < 2 ^ 54) ⌝ }
+{
+    if a < 0x20_0000_0000_0000 {
+        let s = f64::from_bits(a + 0x3FE0_0000_0000_0000);
+        newton(s, estimate(s))
+    } else {
+        let b = a / 2;
+        newton(
+            f64::from_bits(b + 0x3FF0_0000_0000_0000),
+            1.4142135623730951 * estimate(f64::from_bits(b + 0x3FE0_0000_0000_0000)),
+        )
+    }
+}
+
+// A polynomial near the root of s, for s from 1/2 to 1.
+fn estimate(s: f64) -> f64 {
+    0.369956461212 + s * (0.787923078932 + s * (0.0249374023210 * s - 0.182747527293))
+}
+
+// Two steps of Newton's iteration for the root of s, from y.
+fn newton(s: f64, y: f64) -> f64 {
+    let z = 0.5 * (y + s / y);
+    0.5 * (z + s / z)
+}
+
+// a * 2^52 - g * g + 2^56, where g is near enough to the root that every step fits in 64 bits; else 0.
+fn excess(a: u64, g: u64) -> u64
+    requires { ⌜ (a < 2 ^ 54) × (g < 2 ^ 53) ⌝ }
+    ensures { λ r. ⌜ (0 < r → r + g * g ≡ a * 2 ^ 52 + 2 ^ 56) × (r < 2 ^ 58) ⌝ }
+{
+    let high = g / 0x800_0000;
+    let low = g % 0x800_0000;
+    let top = 4 * (high * high);
+    if a < top {
+        return 0;
+    }
+    let d = a - top;
+    if 0x8000_0000 <= d {
+        return 0;
+    }
+    let more = d * 0x100_0000 + 0x1000_0000;
+    let cross = high * low;
+    if more < cross {
+        return 0;
+    }
+    let e = more - cross;
+    if 0x4000_0000 <= e {
+        return 0;
+    }
+    let rest = e * 0x1000_0000;
+    let square = low * low;
+    if rest < square {
+        return 0;
+    }
+    rest - square
+}
+
+// The number nearest to the root of a * 2^52: the guess g or a neighbour of it, if its square says so, and else digit by digit.
+fn settle(a: u64, g: u64) -> u64
+    requires { ⌜ (2 ^ 52 ≤ a) × (a < 2 ^ 54 - 1) × (2 ^ 52 ≤ g) × (g < 2 ^ 53) ⌝ }
+    ensures { λ q. ⌜ q ≡ nearestRoot (a * 2 ^ 52) ⌝ }
+{
+    let r = excess(a, g);
+    if r == 0 {
+        return plain(a);
+    }
+    if r <= 0x100_0000_0000_0000 + g {
+        if 0x100_0000_0000_0000 < r + g {
+            return g;
+        }
+        if 0x100_0000_0000_0002 < r + 3 * g {
+            return g - 1;
+        }
+        return plain(a);
+    }
+    if r <= 0x100_0000_0000_0002 + 3 * g {
+        return g + 1;
+    }
+    plain(a)
+}
+
+// The number nearest to the root of a * 2^52: a guess, settled. A guess that is NaN has no digits, and is not used.
+fn quick(a: u64) -> u64
+    requires { ⌜ (2 ^ 52 ≤ a) × (a < 2 ^ 54 - 1) ⌝ }
+    ensures { λ q. ⌜ q ≡ nearestRoot (a * 2 ^ 52) ⌝ }
+{
+    let y = guess(a);
+    if y == y {
+        let g = f64::to_bits(y) % 0x10_0000_0000_0000;
+        return settle(a, g + 0x10_0000_0000_0000);
+    }
+    plain(a)
+}
+
+// The root of a number above zero and below infinity. The exponent's field and the root's leading digit are added up.
+fn positive(x: f64) -> f64
+    requires { ⌜ lt zero64 x ≡ true ⌝ }
+    requires { ⌜ lt x inf64 ≡ true ⌝ }
+    ensures { λ r. ⌜ r ≡ rootUnits (inUnits x) ⌝ }
+{
+    let b = f64::to_bits(x);
+    let p = split(b);
+    let a = p.a;
+    let q = quick(a);
+    f64::from_bits((p.h + 484) * 0x10_0000_0000_0000 + q)
+}
+
+// The square root, correctly rounded. NaN for a negative number; zero of either sign, infinity and NaN for themselves.
+pub fn sqrt(x: f64) -> f64
+    ensures { λ r. ⌜ r ≡ root x ⌝ }
+{
+    if x < 0.0 {
+        return 0.0 / 0.0;
+    }
+    if x > 0.0 {
+        if x < f64::from_bits(0x7FF0_0000_0000_0000) {
+            return positive(x);
+        }
+    }
+    x
+}
