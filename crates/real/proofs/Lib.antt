@@ -1,2 +1,3 @@
 pub mod Fold
 pub mod SignedOrder
+pub mod Values
