@@ -1,16 +1,21 @@
 -- Values of binary64: what a number less itself is. Assumes nothing.
 use mathlib.Core.Path.{_≡_, refl, sym, ap, _∙_, subst}
 use mathlib.Core.Bool.{Bool, true, false, not, _&&_, _||_, cond}
-use Prim.Native.Nat.{ℕ, zero, suc, _+_, _-_, _*_, _/_, _^_, _≤_, _<_}
-use native.Mathlib.Nat.{sub-self, mul-pos, lt-irrefl}
+use mathlib.Core.Logic.{_⊎_, inl, inr}
+use Prim.Native.Nat.{ℕ, zero, suc, _+_, _-_, _*_, _/_, _%_, _^_, _≤_, _<_}
+use native.Mathlib.Nat.{sub-self, mul-pos, lt-irrefl, zero-mul, one-mul, mul-one, mul-assoc, mul-comm, mul-right-comm, mul-lt-mul-of-pos-right, not-le-of-lt, lt-of-mul-lt-mul-right}
 use native.Mathlib.Omega.{arith}
 use lib.IntN.{ℤ, pos, negsuc}
-use lib.Dec.{T, ltb, ltb→lt, lt→ltb, lit≤, eqb, leb}
-use lib.Ieee.{Float, nan, inf, fin, Format, binary64, up, down, round, sum, add, sub, neg, lt, eq, le, fits, ofBits, toUnsigned}
-use lib.Ieee.Fits.{down-pos}
+use lib.Dec.{T, ltb, T-not, ltb→lt, lt→ltb, lit≤, eqb, eqb→eq, leb, leb→le}
+use lib.Ieee.{Float, nan, inf, fin, Format, binary64, up, down, round, sum, add, sub, neg, lt, eq, le, fits, ofBits, toBits, toUnsigned, prec, emax, low, size, hid, top}
+use lib.Pow.{pow-pos, pow-add, pow-lt}
+use lib.Ieee.Fits.{down-pos, and-l, and-r, round-fits, neg-fits}
+use lib.Ieee.Exact.{HasValue, round-exact}
+use lib.Ieee.Bits.{ofBits-toBits}
+use lib.Ieee.Nearest.{div-same}
 use lib.Ieee.Scale.{finite}
-use Rattle.real.specs.Reals.{zero64, big64}
-use Rattle.real.proofs.SignedOrder.{zero-of, toUnsigned-mono, lt→le, le-tr}
+use Rattle.real.specs.Reals.{zero64, big64, magnitude}
+use Rattle.real.proofs.SignedOrder.{zero-of, toUnsigned-mono, lt→le, here-or-on, mag, sle-of, of-sle}
 
 -- ---- x - x is zero where x is finite, and NaN elsewhere
 untrue : (b : Bool) → (T b → ⊥) → b ≡ false
@@ -57,3 +62,102 @@ below-top (inf true) h = tt
 below-top (inf false) h = absurd h
 below-top (fin true m e) h = lt→ltb 0 (m * up e * 1 + 2 ^ 64 * down e) (omega (arith, down-pos e))
 below-top (fin false m e) h = let k = ltb→lt (m * up e * 1) (2 ^ 32 * down e) h in lt→ltb (m * up e * 1) (2 ^ 64 * down e) (omega arith)
+
+-- ---- a fraction that the format holds is rounded to itself
+
+-- what `fits` says of a finite value's parts
+fits-parts : (f : Format) (s : Bool) (m : ℕ) (e : ℤ) → T (fits f (fin s m e)) → (m < 2 ^ prec f) × (down e ≤ 2 ^ low f) × (m * up e < 2 ^ suc (emax f) * down e)
+unfolding fits
+fits-parts f s zero e h = (pow-pos (prec f), flat e (eqb→eq (up e * down e) 1 h), subst (λ (z : ℕ). z < 2 ^ suc (emax f) * down e) (sym (zero-mul (up e))) (mul-pos (pow-pos (suc (emax f))) (down-pos e)))
+  where
+    flat : (d : ℤ) → up d * down d ≡ 1 → down d ≤ 2 ^ low f
+    flat (pos k) g = pow-pos (low f)
+    flat (negsuc k) g = subst (λ (z : ℕ). z ≤ 2 ^ low f) (sym g ∙ one-mul (2 ^ suc k)) (pow-pos (low f))
+fits-parts f s (suc m) e h =
+    let A = eqb (suc m % 2) 1 in
+    let B = ltb (suc m) (2 ^ prec f) in
+    let C = leb (down e) (2 ^ low f) in
+    let D = ltb (suc m * up e) (2 ^ suc (emax f) * down e) in (
+      ltb→lt (suc m) (2 ^ prec f) (and-r A B (and-l (A && B) C (and-l (A && B && C) D h))),
+      leb→le (down e) (2 ^ low f) (and-r (A && B) C (and-l (A && B && C) D h)),
+      ltb→lt (suc m * up e) (2 ^ suc (emax f) * down e) (and-r (A && B && C) D h),
+    )
+
+-- 2 ^ e in units of the smallest value
+in-units : (l : ℕ) (e : ℤ) → down e ≤ 2 ^ l → (j : ℕ) × (up e * 2 ^ l ≡ 2 ^ j * down e)
+in-units l (pos k) h = (k + l, sym (pow-add 2 k l) ∙ sym (mul-one (2 ^ (k + l))))
+in-units l (negsuc k) h = (l - suc k, one-mul (2 ^ l) ∙ ap (λ (z : ℕ). 2 ^ z) (split-at l (suc k) within) ∙ pow-add 2 (l - suc k) (suc k))
+  where
+    split-at : (a b : ℕ) → b ≤ a → a ≡ a - b + b
+    split-at a b q = omega arith
+
+    within : suc k ≤ l
+    within = elim (here-or-on l (suc k)) [ inl q ↦ absurd (not-le-of-lt (pow-lt q) h) | inr q ↦ q ]
+
+-- r * 2 ^ e is rounded to itself where r has no more digits than the format keeps
+pub round-part : (f : Format) (s : Bool) (r : ℕ) (e : ℤ) → r < 2 ^ prec f → down e ≤ 2 ^ low f → r * up e < 2 ^ suc (emax f) * down e → HasValue (round f s (r * up e) (down e)) s (r * up e) (down e)
+round-part f s r e small deep high =
+    let u = in-units (low f) e deep in
+    let j = u .0 in
+    let l = low f in
+    let eq : r * up e * 2 ^ l ≡ r * 2 ^ j * down e = mul-assoc r (up e) (2 ^ l) ∙ ap (λ (z : ℕ). r * z) (u .1) ∙ sym (mul-assoc r (2 ^ j) (down e)) in
+    let b : r * up e * 2 ^ l < 2 ^ suc (emax f) * down e * 2 ^ l = mul-lt-mul-of-pos-right high (pow-pos l) in
+    let c : 2 ^ suc (emax f) * down e * 2 ^ l ≡ 2 ^ (l + suc (emax f)) * down e =
+    mul-right-comm (2 ^ suc (emax f)) (down e) (2 ^ l) ∙ ap (λ (z : ℕ). z * down e) (mul-comm (2 ^ suc (emax f)) (2 ^ l) ∙ sym (pow-add 2 l (suc (emax f)))) in
+    let d : r * 2 ^ j * down e < 2 ^ (l + suc (emax f)) * down e = subst (λ (z : ℕ). z < 2 ^ (l + suc (emax f)) * down e) eq (subst (λ (z : ℕ). r * up e * 2 ^ l < z) c b) in
+    round-exact f s (r * up e) (down e) r j (down-pos e) small (lt-of-mul-lt-mul-right (down e) d) eq
+
+-- two values of the format that are the same number are the same value
+alike : (f : Format) (s : Bool) (m n : ℕ) (e d : ℤ) → m * up e * down d ≡ n * up d * down e → toBits f (fin s m e) ≡ toBits f (fin s n d)
+unfolding toBits
+alike f s m n e d h =
+    ap (λ (z : ℕ). cond s (top f) 0 + (size z - prec f) * hid f + z / 2 ^ (size z - prec f))
+    (div-same (m * up e * 2 ^ low f) (down e) (n * up d * 2 ^ low f) (down d) (down-pos e) (down-pos d)
+    (mul-right-comm (m * up e) (2 ^ low f) (down d) ∙ ap (λ (z : ℕ). z * 2 ^ low f) h ∙ mul-right-comm (n * up d) (down e) (2 ^ low f)))
+
+same-value : (f : Format) (s : Bool) (m n : ℕ) (e d : ℤ) → T (fits f (fin s m e)) → T (fits f (fin s n d)) → m * up e * down d ≡ n * up d * down e → fin s m e ≡ fin s n d
+same-value f s m n e d p q h = sym (ofBits-toBits f (fin s m e) p) ∙ ap (λ (z : ℕ). ofBits f z) (alike f s m n e d h) ∙ ofBits-toBits f (fin s n d) q
+
+pub round-own : (f : Format) (s : Bool) (m : ℕ) (e : ℤ) → T (fits f (fin s m e)) → round f s (m * up e) (down e) ≡ fin s m e
+round-own f s m e h =
+    let p = fits-parts f s m e h in
+    go (round f s (m * up e) (down e)) (round-fits f s (m * up e) (down e)) (round-part f s m e (p .0) (p .1) (p .2))
+  where
+    go : (x : Float) → T (fits f x) → HasValue x s (m * up e) (down e) → x ≡ fin s m e
+    go nan q v = absurd v
+    go (inf t) q v = absurd v
+    go (fin t n d) q v = ap (λ (u : Bool). fin u n d) (v .0) ∙ same-value f s n m d e (subst (λ (u : Bool). T (fits f (fin u n d))) (v .0) q) h (v .1)
+
+-- ---- the size of a value
+
+pub magnitude-is : (x : Float) → magnitude x ≡ mag x
+unfolding magnitude mag
+magnitude-is nan = refl
+magnitude-is (inf s) = refl
+magnitude-is (fin s m e) = refl
+
+-- 0 - x for x at most 0
+pub size-below : (x : Float) → T (fits binary64 x) → T (le x zero64) → sub binary64 zero64 x ≡ magnitude x
+unfolding sub add neg sum le magnitude ofBits
+size-below nan p h = absurd h
+size-below (inf true) p h = refl
+size-below (inf false) p h = absurd h
+size-below (fin true m e) p h =
+    let a : 0 * down e + m * up e * 1 ≡ m * up e = omega (arith, zero-mul (down e)) in
+    ap (λ (z : ℕ). round binary64 false z (1 * down e)) a
+    ∙ ap (λ (z : ℕ). round binary64 false (m * up e) z) (one-mul (down e))
+    ∙ round-own binary64 false m e (neg-fits binary64 (fin true m e) p)
+size-below (fin false m e) p h =
+    let k = sle-of false false (m * up e * 1) (0 * down e) h in
+    let z : m * up e * 1 ≡ 0 * down e = omega (arith, zero-mul (down e)) in
+    let i : fin false m e ≡ fin false 0 (pos 0) = same-value binary64 false m 0 e (pos 0) p (unfold fits in tt) z in
+    ap (λ (x : Float). sub binary64 zero64 x) i ∙ sym i
+
+-- x itself elsewhere
+pub size-above : (x : Float) → T (not (le x zero64)) → x ≡ magnitude x
+unfolding le magnitude ofBits
+size-above nan h = refl
+size-above (inf true) h = absurd h
+size-above (inf false) h = refl
+size-above (fin true m e) h = absurd (T-not (le (fin true m e) zero64) h (of-sle true false (m * up e * 1) (0 * down e) (omega arith)))
+size-above (fin false m e) h = refl

@@ -1,9 +1,9 @@
 -- What the functions of this crate compute. Definitions only.
 use Prim.Native.Nat.{ℕ, _+_, _≤_, min, max}
 use mathlib.Core.Path.{_≡_}
-use mathlib.Core.Bool.{Bool, cond}
+use mathlib.Core.Bool.{Bool, false, cond}
 use lib.IntN.{pos}
-use lib.Ieee.{Float, binary64, lt, le, sub, ofInt, ofBits, toUnsigned}
+use lib.Ieee.{Float, nan, inf, fin, binary64, lt, le, sub, ofInt, ofBits, toUnsigned}
 
 -- 0, 1/2, 1 and 2 ^ 32
 abbrev pub zero64 : Float
@@ -17,6 +17,12 @@ one64 = ofBits binary64 0x3FF0_0000_0000_0000
 
 abbrev pub big64 : Float
 big64 = ofBits binary64 0x41F0_0000_0000_0000
+
+-- the size of x: its sign cleared, also of -0; Rust's `f64::abs`
+unfoldable pub magnitude : Float → Float
+magnitude nan = nan
+magnitude (inf s) = inf false
+magnitude (fin s m e) = fin false m e
 
 -- the greater of a and b
 unfoldable pub greater : Float → Float → Float

@@ -6,7 +6,7 @@ ghost use lib.Dec.{T};
 ghost use lib.IntN.{pos};
 ghost use lib.Ieee.{inf, binary64, ofInt, lt};
 ghost use lib.Ieee.Scale.{finite};
-ghost use Rattle.real.specs.Reals.{greater, lesser, clampUnit, clampCount, nearestWhole, roundInto, Into, zero64, big64};
+ghost use Rattle.real.specs.Reals.{magnitude, greater, lesser, clampUnit, clampCount, nearestWhole, roundInto, Into, zero64, big64};
 
 // Plus infinity.
 pub fn infinity() -> f64
@@ -28,6 +28,13 @@ pub fn is_finite(x: f64) -> bool
     ensures { λ r. ⌜ r ≡ finite x ⌝ }
 {
     x - x == 0.0
+}
+
+// The size of x: Rust's `f64::abs`. From x <= 0 down, 0 - x is exact, and +0 for either zero.
+pub fn abs(x: f64) -> f64
+    ensures { λ r. ⌜ r ≡ magnitude x ⌝ }
+{
+    if x <= 0.0 { 0.0 - x } else { x }
 }
 
 // The greater of a and b.
