@@ -1,3 +1,4 @@
 pub mod Fold
 pub mod SignedOrder
 pub mod Values
+pub mod Rounding

@@ -1,7 +1,7 @@
--- Values of binary64: what a number less itself is. Assumes nothing.
+-- Values of binary64: a number less itself, a number's whole part and its size, and that a number of the format is rounded to itself. Assumes nothing.
 use mathlib.Core.Path.{_≡_, refl, sym, ap, _∙_, subst}
-use mathlib.Core.Bool.{Bool, true, false, not, _&&_, _||_, cond}
-use mathlib.Core.Logic.{_⊎_, inl, inr}
+use mathlib.Core.Bool.{Bool, true, false, not, _&&_, cond}
+use mathlib.Core.Logic.{inl, inr}
 use Prim.Native.Nat.{ℕ, zero, suc, _+_, _-_, _*_, _/_, _%_, _^_, _≤_, _<_}
 use native.Mathlib.Nat.{sub-self, mul-pos, lt-irrefl, zero-mul, one-mul, mul-one, mul-assoc, mul-comm, mul-right-comm, mul-lt-mul-of-pos-right, not-le-of-lt, lt-of-mul-lt-mul-right}
 use native.Mathlib.Omega.{arith}
@@ -18,7 +18,7 @@ use Rattle.real.specs.Reals.{zero64, big64, magnitude}
 use Rattle.real.proofs.SignedOrder.{zero-of, toUnsigned-mono, lt→le, here-or-on, mag, sle-of, of-sle}
 
 -- ---- x - x is zero where x is finite, and NaN elsewhere
-untrue : (b : Bool) → (T b → ⊥) → b ≡ false
+pub untrue : (b : Bool) → (T b → ⊥) → b ≡ false
 untrue true h = absurd (h tt)
 untrue false h = refl
 
@@ -66,7 +66,7 @@ below-top (fin false m e) h = let k = ltb→lt (m * up e * 1) (2 ^ 32 * down e) 
 -- ---- a fraction that the format holds is rounded to itself
 
 -- what `fits` says of a finite value's parts
-fits-parts : (f : Format) (s : Bool) (m : ℕ) (e : ℤ) → T (fits f (fin s m e)) → (m < 2 ^ prec f) × (down e ≤ 2 ^ low f) × (m * up e < 2 ^ suc (emax f) * down e)
+pub fits-parts : (f : Format) (s : Bool) (m : ℕ) (e : ℤ) → T (fits f (fin s m e)) → (m < 2 ^ prec f) × (down e ≤ 2 ^ low f) × (m * up e < 2 ^ suc (emax f) * down e)
 unfolding fits
 fits-parts f s zero e h = (pow-pos (prec f), flat e (eqb→eq (up e * down e) 1 h), subst (λ (z : ℕ). z < 2 ^ suc (emax f) * down e) (sym (zero-mul (up e))) (mul-pos (pow-pos (suc (emax f))) (down-pos e)))
   where

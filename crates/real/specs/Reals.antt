@@ -1,20 +1,18 @@
--- What the functions of this crate compute. Definitions only.
-use Prim.Native.Nat.{ℕ, _+_, _≤_, min, max}
-use mathlib.Core.Path.{_≡_}
-use mathlib.Core.Bool.{Bool, false, cond}
-use lib.IntN.{pos}
-use lib.Ieee.{Float, nan, inf, fin, binary64, lt, le, sub, ofInt, ofBits, toUnsigned}
+-- What the functions of this crate compute. Definitions, and examples at the end.
+use Prim.Native.Nat.{ℕ, _+_, _-_, _*_, _/_, _^_, _≤_, min, max}
+use mathlib.Core.Path.{_≡_, refl}
+use mathlib.Core.Bool.{false, cond}
+use lib.Ieee.{Float, nan, inf, fin, binary64, up, down, lt, ofBits}
 
--- 0, 1/2, 1 and 2 ^ 32
+-- plus zero
 abbrev pub zero64 : Float
 zero64 = ofBits binary64 0
 
-abbrev pub half64 : Float
-half64 = ofBits binary64 0x3FE0_0000_0000_0000
-
+-- one
 abbrev pub one64 : Float
 one64 = ofBits binary64 0x3FF0_0000_0000_0000
 
+-- 2 ^ 32
 abbrev pub big64 : Float
 big64 = ofBits binary64 0x41F0_0000_0000_0000
 
@@ -24,32 +22,72 @@ magnitude nan = nan
 magnitude (inf s) = inf false
 magnitude (fin s m e) = fin false m e
 
--- the greater of a and b
+-- the greater of a and b, a where they are equal: Rust's `f64::max` where neither is NaN, but for the sign of a zero
 unfoldable pub greater : Float → Float → Float
 greater a b = cond (lt a b) b a
 
--- the lesser of a and b
+-- the lesser of a and b, a where they are equal: Rust's `f64::min` where neither is NaN, but for the sign of a zero
 unfoldable pub lesser : Float → Float → Float
 lesser a b = cond (lt b a) b a
 
--- x brought into 0 to 1
+-- x brought into 0 to 1, NaN staying NaN: Rust's `x.clamp(0.0, 1.0)`
 unfoldable pub clampUnit : Float → Float
 clampUnit x = cond (lt x zero64) zero64 (cond (lt one64 x) one64 x)
 
--- n brought into lo to hi
+-- n brought into lo to hi: Rust's `n.clamp(lo, hi)`
 abbrev pub clampCount : ℕ → ℕ → ℕ → ℕ
 clampCount n lo hi = max lo (min n hi)
 
--- the whole number nearest to x, halves up, for x from 0 to 2 ^ 53
-unfoldable pub nearestWhole : Float → ℕ
-nearestWhole x = let t = toUnsigned 64 x in cond (le half64 (sub binary64 x (ofInt binary64 (pos t)))) (t + 1) t
+-- Rust's `x.round() as u64`: x rounded to a whole number, halves up; 0 for NaN and below zero, and at most 2 ^ 64 - 1
+unfoldable pub roundWhole : Float → ℕ
+roundWhole nan = 0
+roundWhole (inf s) = cond s 0 (2 ^ 64 - 1)
+roundWhole (fin s m e) = cond s 0 (min ((2 * (m * up e) + down e) / (2 * down e)) (2 ^ 64 - 1))
 
--- x rounded and brought into lo to hi
+-- Rust's `(x.round() as usize).clamp(lo, hi)`
 unfoldable pub roundInto : Float → ℕ → ℕ → ℕ
-roundInto x lo hi = cond (lt zero64 x) (cond (lt x big64) (clampCount (nearestWhole x) lo hi) hi) lo
+roundInto x lo hi = clampCount (roundWhole x) lo hi
 
--- r is n, and lies from lo to hi
+-- what a clamp ensures of its result r: it is n, and lies from lo to hi
 pub record Into (lo hi n r : ℕ) : Type 0 where
   pub is : r ≡ n
   pub low : lo ≤ r
   pub high : r ≤ hi
+
+-- ---- examples, by their bits
+
+module _ where
+  -- 2.5, the next number below it, 0.5, the next number below it, -1 and 1e300, rounded to whole numbers
+  tie : roundWhole (ofBits binary64 0x4004_0000_0000_0000) ≡ 3
+  unfolding roundWhole ofBits
+  tie = refl
+
+  belowTie : roundWhole (ofBits binary64 0x4003_FFFF_FFFF_FFFF) ≡ 2
+  unfolding roundWhole ofBits
+  belowTie = refl
+
+  half : roundWhole (ofBits binary64 0x3FE0_0000_0000_0000) ≡ 1
+  unfolding roundWhole ofBits
+  half = refl
+
+  belowHalf : roundWhole (ofBits binary64 0x3FDF_FFFF_FFFF_FFFF) ≡ 0
+  unfolding roundWhole ofBits
+  belowHalf = refl
+
+  minusOne : roundWhole (ofBits binary64 0xBFF0_0000_0000_0000) ≡ 0
+  unfolding roundWhole ofBits
+  minusOne = refl
+
+  huge : roundInto (ofBits binary64 0x7E37_E43C_8800_759C) 1 512 ≡ 512
+  unfolding roundInto roundWhole ofBits
+  huge = refl
+
+  -- the size of -0
+  sizeOfZero : magnitude (ofBits binary64 0x8000_0000_0000_0000) ≡ zero64
+  unfolding magnitude ofBits
+  sizeOfZero = refl
+
+  -- -0 lies in 0 to 1
+  clampZero : clampUnit (ofBits binary64 0x8000_0000_0000_0000) ≡ ofBits binary64 0x8000_0000_0000_0000
+  unfolding clampUnit lt ofBits
+  clampZero = refl

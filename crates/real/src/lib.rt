@@ -6,7 +6,7 @@ ghost use lib.Dec.{T};
 ghost use lib.IntN.{pos};
 ghost use lib.Ieee.{inf, binary64, ofInt, lt};
 ghost use lib.Ieee.Scale.{finite};
-ghost use Rattle.real.specs.Reals.{magnitude, greater, lesser, clampUnit, clampCount, nearestWhole, roundInto, Into, zero64, big64};
+ghost use Rattle.real.specs.Reals.{magnitude, greater, lesser, clampUnit, clampCount, roundWhole, roundInto, Into, zero64, big64};
 
 // Plus infinity.
 pub fn infinity() -> f64
@@ -30,28 +30,28 @@ pub fn is_finite(x: f64) -> bool
     x - x == 0.0
 }
 
-// The size of x: Rust's `f64::abs`. From x <= 0 down, 0 - x is exact, and +0 for either zero.
+// The size of x: Rust's `f64::abs`. Where x <= 0.0 the difference is exact, and it is +0 for a zero of either sign.
 pub fn abs(x: f64) -> f64
     ensures { λ r. ⌜ r ≡ magnitude x ⌝ }
 {
     if x <= 0.0 { 0.0 - x } else { x }
 }
 
-// The greater of a and b.
+// The greater of a and b, and a where they are equal. For numbers that are not NaN.
 pub fn max(a: f64, b: f64) -> f64
     ensures { λ r. ⌜ r ≡ greater a b ⌝ }
 {
     if a < b { b } else { a }
 }
 
-// The lesser of a and b.
+// The lesser of a and b, and a where they are equal. For numbers that are not NaN.
 pub fn min(a: f64, b: f64) -> f64
     ensures { λ r. ⌜ r ≡ lesser a b ⌝ }
 {
     if b < a { b } else { a }
 }
 
-// x brought into 0 to 1; NaN stays.
+// Rust's `x.clamp(0.0, 1.0)`: NaN stays NaN, and -0 stays -0.
 pub fn clamp_unit(x: f64) -> f64
     ensures { λ r. ⌜ r ≡ clampUnit x ⌝ }
 {
@@ -64,7 +64,7 @@ pub fn clamp_unit(x: f64) -> f64
     x
 }
 
-// n brought into lo to hi.
+// Rust's `n.clamp(lo, hi)`.
 fn clamp_count(n: u64, lo: usize, hi: usize) -> usize
     requires { ⌜ lo ≤ hi ⌝ }
     ensures { λ r. ⌜ Into lo hi (clampCount n lo hi) r ⌝ }
@@ -79,20 +79,21 @@ fn clamp_count(n: u64, lo: usize, hi: usize) -> usize
     k
 }
 
-// The whole number nearest to x, halves up.
+// The whole number nearest to x, halves up, for x above 0 and below 2^32: there x less its whole part is exact.
 fn rounded(x: f64) -> u64
     requires { ⌜ T (lt zero64 x) ⌝ }
     requires { ⌜ T (lt x big64) ⌝ }
-    ensures { λ r. ⌜ r ≡ nearestWhole x ⌝ }
+    ensures { λ r. ⌜ r ≡ roundWhole x ⌝ }
 {
     let t = std::num::truncating_f64_to_u64(x);
     let f = std::num::nearest_u64_to_f64(t);
     if x - f >= 0.5 { t + 1 } else { t }
 }
 
-// x rounded to a whole number, halves away from zero, and brought into lo to hi; NaN gives lo.
+// Rust's `(x.round() as usize).clamp(lo, hi)`: halves are rounded away from zero, and NaN and negative numbers give lo.
 pub fn round_into(x: f64, lo: usize, hi: usize) -> usize
     requires { ⌜ lo ≤ hi ⌝ }
+    requires { ⌜ hi ≤ 2 ^ 32 ⌝ }
     ensures { λ r. ⌜ Into lo hi (roundInto x lo hi) r ⌝ }
 {
     if x > 0.0 {

@@ -1,9 +1,8 @@
 -- The square root of a binary64, rounded to nearest. Definitions, and examples at the end.
 use Prim.Native.Nat.{ℕ, zero, suc, _+_, _*_, _/_, _^_, _%_, _-_, _≤_, _<_, compare}
 use mathlib.Core.Path.{_≡_, refl}
-use mathlib.Core.Bool.{Bool, true, false, cond, _&&_}
+use mathlib.Core.Bool.{false, cond, _&&_}
 use lib.Dec.{leb, eqb}
-use lib.IntN.{pos, negsuc}
 use lib.Ieee.{Float, nan, inf, fin, binary64, up, down, lt, size, nearest, units, ofBits, toBits}
 
 -- 2 * r + 1 where its square is at most n, else 2 * r: one binary digit more of the root of n
