@@ -7,8 +7,9 @@ use native.Mathlib.Omega.{arith}
 use mathlib.Core.Bool.{Bool, true, false, not, _&&_, _||_, cond}
 use lib.IntN.{ℤ, pos, negsuc}
 use lib.Dec.{T, leb, ltb, ltb→lt, lit<, lit≤}
-use lib.Ieee.{Float, nan, inf, fin, binary64, add, mul, sub, neg, lt, le, ofBits, ofInt, toUnsigned, round, isNan, nanBits}
+use lib.Ieee.{Float, nan, inf, fin, binary64, add, mul, sub, neg, lt, le, eq, ofBits, ofInt, toUnsigned, round, isNan, nanBits}
 use lib.Ieee.Fits.{and-l, and-r}
+use lib.Ieee.Bits.{is-true}
 use lib.Ieee.Scale.{finite}
 use lib.Ieee.Positive.{num, den}
 use Rattle.real.proofs.SignedOrder.{le-tr, le-total, neg-anti, natural, nat-fin, add-mono, mul-smono, mul-nmono, mag, mag-of, mag-in, in-fin, above-nat, toUnsigned-mono, here-or-on, lt-of-not-le, lt-not-le, nlt→le, lt→le, le-self, sub-opened, neg-finite, zero-times}
@@ -247,3 +248,15 @@ exp-range v nn h = subst (λ (x : Float). T (le nought x) × T (le x one)) (sym 
 
 pub exp-in : (v : Float) → T (not (isNan v)) → T (le v nought) → T (finite (expv v)) × T (le nought (expv v)) × T (le (expv v) one)
 exp-in v n h = let i = exp-range v n h in (in-fin nought (expv v) one tt tt (i .0) (i .1), i .0, i .1)
+
+-- what is at most 0 and not below -708 is -708 or more
+number-of : (v : Float) → T (le v nought) → T (not (isNan v))
+unfolding le lt eq isNan
+number-of nan h = h
+number-of (inf s) h = tt
+number-of (fin s m e) h = tt
+
+pub from-floor : (v : Float) → lt v floor708 ≡ false → le v nought ≡ true → le floor708 v ≡ true
+from-floor v f h =
+    is-true (le floor708 v)
+    (nlt→le v floor708 (number-of v (subst T (sym h) tt)) (finite-not-nan floor708 tt) (subst (λ (b : Bool). T (not b)) (sym f) tt))
