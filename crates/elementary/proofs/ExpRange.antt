@@ -1,18 +1,17 @@
--- For every v that is no NaN and at most 0, infinities included: exp's answer is from 0 to 1. Assumes nothing.
-use mathlib.Core.Path.{_≡_, refl, sym, ap, _∙_, subst}
-use mathlib.Core.Logic.{_⊎_, inl, inr}
-use Prim.Native.Nat.{ℕ, zero, suc, _+_, _-_, _*_, _/_, _^_, _≤_, _<_, zero-le}
-use native.Mathlib.Nat.{le-trans, le-refl, lt-irrefl, lt-of-lt-of-le, lt-of-le-of-lt}
+-- exp from 0 down: the whole part is asked only of a number from 1/2 to 1022, K is at most 1021, |r| at most 0.35, and the answer is from 0 to 1, for every v that is no NaN and at most 0, minus infinity included. Assumes nothing.
+use mathlib.Core.Path.{_≡_, refl, sym, subst}
+use mathlib.Core.Logic.{inl, inr}
+use Prim.Native.Nat.{ℕ, zero, suc, _≤_, _<_}
+use native.Mathlib.Nat.{lt-of-le-of-lt}
 use native.Mathlib.Omega.{arith}
-use mathlib.Core.Bool.{Bool, true, false, not, _&&_, _||_, cond}
-use lib.IntN.{ℤ, pos, negsuc}
-use lib.Dec.{T, leb, ltb, ltb→lt, lit<, lit≤}
-use lib.Ieee.{Float, nan, inf, fin, binary64, add, mul, sub, neg, lt, le, eq, ofBits, ofInt, toUnsigned, round, isNan, nanBits}
+use mathlib.Core.Bool.{Bool, true, false, not, cond}
+use lib.IntN.{pos}
+use lib.Dec.{T, ltb, ltb→lt, lit<}
+use lib.Ieee.{Float, nan, inf, fin, binary64, add, mul, neg, lt, le, eq, ofBits, toUnsigned, isNan}
 use lib.Ieee.Fits.{and-l, and-r}
 use lib.Ieee.Bits.{is-true}
 use lib.Ieee.Scale.{finite}
-use lib.Ieee.Positive.{num, den}
-use Rattle.real.proofs.SignedOrder.{le-tr, le-total, neg-anti, natural, nat-fin, add-mono, mul-smono, mul-nmono, mag, mag-of, mag-in, in-fin, above-nat, toUnsigned-mono, here-or-on, lt-of-not-le, lt-not-le, nlt→le, lt→le, le-self, sub-opened, neg-finite, zero-times}
+use Rattle.real.proofs.SignedOrder.{le-tr, le-total, neg-anti, natural, nat-fin, add-mono, mul-smono, mul-nmono, mag, mag-of, in-fin, above-nat, toUnsigned-mono, lt-of-not-le, nlt→le, le-self, neg-finite, zero-times}
 use Rattle.exponent_table.specs.Reduction.{INV, one, half, nought, floor708, uncut, expK, expRest, twoToMinus}
 use Rattle.elementary.specs.Exp.{expSteps, expNear, expv}
 use Rattle.elementary.proofs.StepsRange.{threeHalves, R35-nat, s-in, s-neg}
@@ -100,7 +99,6 @@ module _ (v : Float) (low : T (le floor708 v)) (high : T (le v nought)) where
 
   pub K-le : expK v ≤ 1021
   K-le = subst (λ (k : ℕ). k ≤ 1021) (sym (K-is v)) (subst (λ (k : ℕ). toUnsigned 64 (uncut v) ≤ k) K-bottom (toUnsigned-mono 64 (uncut v) (uncut floor708) uncut-nat (uncut-bottom .2) uncut-high'))
-
 
 nought-half : T (le nought half)
 unfolding le

@@ -1,18 +1,16 @@
--- The exponential's answer lies from 0 to 1, for every v up to 0; K is at most 1021; the whole part is asked only of a number from 1/2 to 1022. Assumes nothing.
+-- The steps of exp on an interval: with |r| at most 0.35 the 13 steps from 1 stay from 1/2 to 3/2, and with r at most 0 the last gives 1 at most. Assumes nothing.
 use mathlib.Core.Path.{_≡_, refl, sym, ap, _∙_, subst}
-use mathlib.Core.Logic.{_⊎_, inl, inr}
-use Prim.Native.Nat.{ℕ, zero, suc, _+_, _-_, _*_, _/_, _^_, _≤_, _<_, zero-le}
-use native.Mathlib.Nat.{le-trans, le-refl, lt-irrefl}
+use Prim.Native.Nat.{ℕ, zero, suc, _<_}
 use native.Mathlib.Omega.{arith}
 use mathlib.Core.List.{List, [], _∷_}
-use mathlib.Core.Bool.{Bool, true, false, not, _&&_, cond}
-use lib.IntN.{ℤ, pos, negsuc}
-use lib.Dec.{T, leb, ltb, eqb, leb→le, ltb→lt, lt→ltb, lit<, lit≤}
-use lib.Ieee.{Float, nan, inf, fin, binary64, add, mul, div, sub, neg, lt, le, ofBits, ofInt, toUnsigned, round, isNan, nanBits}
-use lib.Ieee.Fits.{and-i, and-l, and-r}
+use mathlib.Core.Bool.{Bool, false, _&&_}
+use lib.IntN.{pos, negsuc}
+use lib.Dec.{T, ltb, ltb→lt}
+use lib.Ieee.{Float, fin, binary64, add, mul, div, neg, le, ofInt, round}
+use lib.Ieee.Fits.{and-l, and-r}
 use lib.Ieee.Scale.{finite}
-use lib.Ieee.Positive.{num, den, positive, positive-finite}
-use Rattle.real.proofs.SignedOrder.{le-tr, le-total, neg-anti, natural, nat-fin, add-mono, mul-smono, mul-nmono, div-smono, mag, mag-in, mag-of, mag-finite, mag-self, mag-nat, mul-mag, div-mag, in-fin, above-nat, toUnsigned-mono, here-or-on, lt-of-not-le, lt-not-le, nlt→le, lt→le, le-self, zero-times, zero-over, sub-opened, neg-finite}
+use lib.Ieee.Positive.{num, positive}
+use Rattle.real.proofs.SignedOrder.{le-tr, natural, nat-fin, add-mono, mul-smono, mul-nmono, div-smono, mag, mag-in, mag-finite, mag-self, mag-nat, mul-mag, div-mag, above-nat, le-self, zero-times, zero-over, neg-finite}
 use Rattle.exponent_table.specs.Reduction.{one, half, nought}
 use Rattle.exponent_table.proofs.Tests.{allb, All, all→}
 use Rattle.exponent_table.proofs.Table.{R35}

@@ -1,9 +1,6 @@
 -- `elementary::exp` meets its contract: its tests are the definition's. What is not below -708 and is at most 0 is from -708 to 0.
-use mathlib.Core.Path.{_≡_, sym, subst, _∙_}
-use mathlib.Core.Bool.{true, false}
-use lib.Dec.{T}
-use lib.Ieee.{Float, lt, le, div, neg, ofBits}
-use Rattle.exponent_table.specs.Reduction.{nought, floor708}
+use mathlib.Core.Path.{sym, _∙_}
+use lib.Ieee.{div, neg, ofBits}
 use Rattle.elementary.specs.Exp.{expv}
 use Rattle.elementary.proofs.ExpRange.{from-floor}
 use Rattle.elementary.proofs.exp.Statement.{statement}

@@ -1,10 +1,10 @@
 -- `elementary::exp_near` meets its contract: the whole part is asked of a number from 1/2 to 1022, so K is 1021 at most.
-use mathlib.Core.Path.{_≡_, refl, sym, subst, ap}
+use mathlib.Core.Path.{_≡_, sym, subst, ap}
 use borrow.Author.Needs.{needs}
 use native.Mathlib.Omega.{arith}
 use Prim.Native.Nat.{ℕ, _≤_}
 use lib.Dec.{T}
-use lib.Ieee.{Float, binary64, mul, ofBits, ofInt}
+use lib.Ieee.{binary64, mul, ofBits}
 use Rattle.exponent_table.specs.Reduction.{uncut, expK, expRest, twoToMinus, one}
 use Rattle.elementary.specs.Exp.{expNear, expSteps}
 use Rattle.elementary.proofs.ExpRange.{uncut-in-range, K-le}

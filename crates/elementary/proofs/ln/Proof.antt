@@ -1,15 +1,15 @@
 -- `elementary::ln` meets its contract: its tests are the definition's. A number below infinity is no NaN, and m's pattern has the exponent's field 1023.
 use mathlib.Core.Path.{_≡_, sym, subst, _∙_}
 use mathlib.Core.Logic.{⊎-elim}
-use mathlib.Core.Bool.{Bool, true, false, not}
-use Prim.Native.Nat.{ℕ, _+_, _*_, _^_, _%_, _<_}
+use mathlib.Core.Bool.{true, not}
+use Prim.Native.Nat.{_^_, _<_}
 use native.Mathlib.Omega.{arith}
 use borrow.Author.Needs.{needs}
 use lib.Dec.{T}
-use lib.Ieee.{Float, nan, inf, fin, binary64, lt, div, ofBits, ofInt, toBits, isNan, fits}
+use lib.Ieee.{Float, nan, inf, fin, binary64, lt, div, ofBits, ofInt, toBits, isNan}
 use lib.Ieee.Bits.{toBits-lt}
 use Rattle.exponent_table.proofs.Patterns.{no-nan}
-use Rattle.elementary.specs.Ln.{lnv, mantissa, exponent, leastNormal}
+use Rattle.elementary.specs.Ln.{lnv, mantissa, exponent}
 use Rattle.elementary.proofs.ln.Statement.{statement}
 use Rattle.elementary.proofs.ln.Tie as tie
 
