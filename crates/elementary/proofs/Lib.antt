@@ -1,0 +1,2 @@
+pub mod StepsRange
+pub mod ExpRange

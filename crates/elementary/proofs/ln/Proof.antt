@@ -1,0 +1,52 @@
+-- `elementary::ln` meets its contract: its tests are the definition's. A number below infinity is no NaN, and m's pattern has the exponent's field 1023.
+use mathlib.Core.Path.{_≡_, sym, subst, _∙_}
+use mathlib.Core.Logic.{⊎-elim}
+use mathlib.Core.Bool.{true, not}
+use Prim.Native.Nat.{_^_, _<_}
+use native.Mathlib.Omega.{arith}
+use borrow.Author.Needs.{needs}
+use lib.Dec.{T}
+use lib.Ieee.{Float, nan, inf, fin, binary64, lt, div, ofBits, ofInt, toBits, isNan}
+use lib.Ieee.Bits.{toBits-lt}
+use Rattle.exponent_table.proofs.Patterns.{no-nan}
+use Rattle.elementary.specs.Ln.{lnv, mantissa, exponent}
+use Rattle.elementary.proofs.ln.Statement.{statement}
+use Rattle.elementary.proofs.ln.Tie as tie
+
+number : (v : Float) (top : Float) → lt v top ≡ true → T (not (isNan v))
+unfolding lt isNan
+number nan top e = subst T (sym e) tt
+number (inf s) top e = tt
+number (fin s m e') top e = tt
+
+-- the exponent's field has 12 bits, the sign's among them
+bits-in : (c : tie.Start) → toBits binary64 (c .args .v) < 2 ^ 64
+bits-in c = toBits-lt binary64 (c .args .v) (subst T (sym (c .good .0 .1)) tt)
+
+returns : tie.Need-returns
+unfolding lnv mantissa exponent ofBits ofInt
+returns c =
+    let at = c .before .before in
+    c .ln-parts .ensures ∙ sym (rw (at .before .before .if1 .taken, rw (at .before .infinity .ensures) at (at .if2 .taken)))
+
+returns-2 : tie.Need-returns-2
+unfolding lnv ofBits div
+returns-2 c =
+    ⊎-elim
+    (λ w. sym (rw (w .0 .taken, rw (w .1 .ensures) at (w .2 .left))))
+    (λ w. sym (rw (w .left)))
+    (c .if1 .came)
+
+pub ln-spec : {M : Type 1} → statement M
+ln-spec =
+    tie.close
+    (tie.spec
+    (λ c κs. search needs)
+    (λ c. number _ _ (c .if2 .taken))
+    (λ c. search needs)
+    (λ c. no-nan _ (omega arith))
+    (λ c. omega (arith, bits-in (c .before .before .before)))
+    (λ c. search needs)
+    (λ c κs. search needs)
+    returns
+    returns-2)

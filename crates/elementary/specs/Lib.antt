@@ -1,0 +1,2 @@
+pub mod Exp
+pub mod Ln

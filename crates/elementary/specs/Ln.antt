@@ -1,0 +1,77 @@
+-- The natural logarithm of a positive normal number, by its steps. Definitions, and examples of them.
+use Prim.Native.Nat.{ℕ, zero, suc, _+_, _*_, _/_, _%_, _^_}
+use mathlib.Core.Path.{_≡_, refl}
+use mathlib.Core.Bool.{true, false, cond, _&&_}
+use lib.IntN.{pos, negsuc}
+use lib.Ieee.{Float, nan, inf, fin, binary64, add, sub, mul, div, lt, le, ofInt, ofBits, toBits}
+use Rattle.exponent_table.specs.Reduction.{HI, LO, one, half}
+
+abbrev pub two : Float
+two = fin false 1 (pos 1)
+
+abbrev pub threeHalves : Float
+threeHalves = fin false 3 (negsuc 0)
+
+-- 2^-1022
+abbrev pub leastNormal : Float
+leastNormal = ofBits binary64 0x0010_0000_0000_0000
+
+-- v = m·2^e, m from 1 up to below 2: m has v's digits below the exponent's field of 1, which is 1023
+unfoldable pub mantissa : Float → Float
+unfolding ofBits toBits
+mantissa v = ofBits binary64 (1023 * 2 ^ 52 + toBits binary64 v % 2 ^ 52)
+
+-- and e is v's exponent's field less 1023, an exact difference
+unfoldable pub exponent : Float → Float
+unfolding sub ofInt toBits
+exponent v = sub binary64 (ofInt binary64 (pos (toBits binary64 v / 2 ^ 52))) (ofInt binary64 (pos 1023))
+
+-- s becomes 1/j + w·s
+unfoldable pub lnStep : Float → Float → ℕ → Float
+unfolding add mul div ofInt
+lnStep w s j = add binary64 (div binary64 one (ofInt binary64 (pos j))) (mul binary64 w s)
+
+-- the steps for n odd j down to 1, from s: the first j is 2n - 1
+unfoldable pub lnSteps : ℕ → Float → Float → Float
+unfolding lnStep
+lnSteps zero w s = s
+lnSteps (suc n) w s = lnSteps n w (lnStep w s (2 * n + 1))
+
+-- s, from 1/23 by the steps for j = 21 down to 1
+unfoldable pub lnSeries : Float → Float
+unfolding lnSteps div ofInt
+lnSeries w = lnSteps 11 w (div binary64 one (ofInt binary64 (pos 23)))
+
+-- e·HI + ((2·z)·s + e·LO)
+unfoldable pub lnAnswer : Float → Float → Float
+unfolding lnSeries add mul ofBits
+lnAnswer z e = add binary64 (mul binary64 e HI) (add binary64 (mul binary64 (mul binary64 two z) (lnSeries (mul binary64 z z))) (mul binary64 e LO))
+
+-- with z = (m - 1)/(m + 1)
+unfoldable pub lnSplit : Float → Float → Float
+unfolding lnAnswer add sub div
+lnSplit m e = lnAnswer (div binary64 (sub binary64 m one) (add binary64 m one)) e
+
+-- where m ≥ 1.5, m is halved and e raised by one
+unfoldable pub lnParts : Float → Float → Float
+unfolding lnSplit le mul add
+lnParts m e = cond (le threeHalves m) (lnSplit (mul binary64 m half) (add binary64 e one)) (lnSplit m e)
+
+-- for a positive normal v. For any other no steps are given, and the answer is NaN.
+unfoldable pub lnv : Float → Float
+unfolding lnParts mantissa exponent le lt ofBits
+lnv v = cond (le leastNormal v && lt v (inf false)) (lnParts (mantissa v) (exponent v)) nan
+
+-- ---- examples: ln(1), and the parts of 6 = 1.5·2^2, 1/4 and the least normal number
+
+of-one : lnv one ≡ fin false 0 (pos 0)
+unfolding lnv
+of-one = refl
+
+parts-of-six : (mantissa (fin false 3 (pos 1)) ≡ threeHalves) × (exponent (fin false 3 (pos 1)) ≡ two)
+unfolding mantissa exponent
+parts-of-six = (refl, refl)
+
+parts-of-least : (mantissa leastNormal ≡ one) × (exponent leastNormal ≡ fin true 511 (pos 1))
+unfolding mantissa exponent ofBits
+parts-of-least = (refl, refl)

@@ -1,0 +1,58 @@
+-- A computed test for each K from 0 to 1021: at two numbers that enclose every v with this K, K moves off and |r| stays under 0.35. Assumes nothing.
+use mathlib.Core.Path.{subst}
+use mathlib.Core.Logic.{inl, inr}
+use Prim.Native.Nat.{ℕ, zero, suc, _+_, _-_, _*_, _≤_, _<_}
+use native.Mathlib.Nat.{lt-irrefl, eq-or-lt-of-le}
+use native.Mathlib.Omega.{arith}
+use mathlib.Core.List.{List, [], _∷_}
+use mathlib.Core.Bool.{Bool, true, false, _&&_}
+use lib.IntN.{pos}
+use lib.Dec.{T, ltb}
+use lib.Ieee.{Float, binary64, add, mul, neg, le, ofInt, round}
+use lib.Ieee.Fits.{and-l, and-r}
+use lib.Ieee.Scale.{finite}
+use Rattle.real.proofs.SignedOrder.{natural}
+use Rattle.exponent_table.specs.Reduction.{HI, LO, INV, one, half, nought, uncut, expK, expRest, twoToMinus}
+use Rattle.exponent_table.proofs.Tests.{allb, All, all→}
+
+-- 0.35
+abbrev pub R35 : Float
+R35 = round binary64 false 35 100
+
+-- -((k + 1/2) ln 2 + 0.0025) and, from k = 1 on, -((k - 1/2) ln 2 - 0.0025)
+abbrev pub vl : ℕ → Float
+vl k = round binary64 true ((2 * k + 1) * 693147181 + 5000000) 2000000000
+
+abbrev pub vh : ℕ → Float
+vh zero = nought
+vh (suc k) = round binary64 true ((2 * k + 1) * 693147181 - 5000000) 2000000000
+
+abbrev pub kHI : ℕ → Float
+kHI k = mul binary64 (ofInt binary64 (pos k)) HI
+
+abbrev pub kLO : ℕ → Float
+kLO k = mul binary64 (ofInt binary64 (pos k)) LO
+
+abbrev pub above : ℕ → Bool
+above zero = true
+above (suc k) = ltb (expK (vh (suc k))) (suc k) && le (twoToMinus (suc k)) half
+
+abbrev pub tests : ℕ → List Bool
+tests k =
+    ltb k (expK (vl k)) ∷ above k ∷ le (neg R35) (expRest (vl k) k) ∷ le (expRest (vh k) k) R35
+    ∷ finite (vl k) ∷ finite (vh k) ∷ finite (kHI k) ∷ finite (kLO k) ∷ finite (add binary64 (vl k) (kHI k)) ∷ finite (add binary64 (vh k) (kHI k))
+    ∷ finite (mul binary64 (vl k) INV) ∷ finite (mul binary64 (vh k) INV) ∷ natural (uncut (vl k)) ∷ natural (uncut (vh k))
+    ∷ natural (twoToMinus k) ∷ le (twoToMinus k) one ∷ []
+
+-- the tests at a, a + 1, .., a + n - 1
+abbrev pub sweep : ℕ → ℕ → Bool
+sweep zero a = true
+sweep (suc n) a = allb (tests a) && sweep n (suc a)
+
+pub sweep-sound : (n a k : ℕ) → T (sweep n a) → a ≤ k → k < a + n → All (tests k)
+sweep-sound zero a k t l u = absurd (lt-irrefl 0 (omega arith))
+sweep-sound (suc n) a k t l u =
+    elim (eq-or-lt-of-le l) [
+      | inl e ↦ subst (λ (i : ℕ). All (tests i)) e (all→ (tests a) (and-l (allb (tests a)) (sweep n (suc a)) t))
+      | inr g ↦ sweep-sound n (suc a) k (and-r (allb (tests a)) (sweep n (suc a)) t) g (omega arith)
+    ]
