@@ -1,0 +1,35 @@
+#!/usr/bin/env bash
+# All tests: layout of the files, proofs with must-fail edits and programs (rt ci), and stored runs of gwrprint.
+# The last line is 'N passed, M failed', and the exit status says whether M is 0.
+set -u
+cd "$(dirname "$0")/.." || exit 2
+passed=0
+failed=0
+
+note() { # note STATUS NAME
+    if [ "$1" -eq 0 ]; then passed=$((passed + 1)); else failed=$((failed + 1)); echo "FAILED: $2"; fi
+}
+
+rt fmt --check >/dev/null 2>&1
+note $? "rt fmt --check"
+
+mkdir -p target
+log=$(mktemp)
+rt ci 2>&1 | tee "$log"
+last=$(tail -n 1 "$log")
+rm -f "$log"
+if [[ $last =~ ^([0-9]+)\ passed,\ ([0-9]+)\ failed ]]; then
+    passed=$((passed + BASH_REMATCH[1]))
+    failed=$((failed + BASH_REMATCH[2]))
+else
+    note 1 "rt ci gave no verdict"
+fi
+
+for job in tests/listings/*.job; do
+    [ -e "$job" ] || continue
+    target/bin/gwrprint <"$job" 2>/dev/null | cmp -s - "${job%.job}.out"
+    note $? "$job"
+done
+
+echo "$passed passed, $failed failed"
+[ "$failed" -eq 0 ]
