@@ -8,7 +8,7 @@ use Rattle.refusal.proofs.Refusal.number.Tie as tie
 pub number-spec : {M : Type 1} → statement M
 number-spec =
     tie.close
-    (tie.spec 
+    (tie.spec
     (λ c. search needs)
     (λ c. search needs)
     (λ c. search needs)
