@@ -1,2 +1,3 @@
 pub mod StepsRange
 pub mod ExpRange
+pub mod WholeDifference
