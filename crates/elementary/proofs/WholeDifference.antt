@@ -1,14 +1,14 @@
 -- The difference of two whole numbers, as floats, is exact. Assumes nothing.
-use mathlib.Core.Path.{_≡_, refl, sym, ap, _∙_}
+use mathlib.Core.Path.{_≡_, sym, ap, _∙_}
 use mathlib.Core.Logic.{inl, inr}
-use mathlib.Core.Bool.{Bool, true, false, true≢false}
+use mathlib.Core.Bool.{true, false, true≢false}
 use Prim.Native.Nat.{ℕ, suc, _-_, _*_, _^_, _≤_, _<_}
 use native.Mathlib.Nat.{mul-one, mul-assoc, mul-comm, mul-sub, mul-pos, mul-le-mul-right, mul-lt-mul-of-pos-right}
 use native.Mathlib.Omega.{arith}
 use borrow.Author.Tests.{lt-ltb, le-ltb, le-leb, lt-leb}
 use lib.Dec.{lit<}
 use lib.IntN.{pos}
-use lib.Ieee.{Float, nan, inf, fin, binary64, up, down, minus, round, sum, add, sub, neg, ofInt}
+use lib.Ieee.{Float, nan, inf, fin, binary64, up, down, minus, sum, add, sub, neg, ofInt}
 use lib.Ieee.Exact.{HasValue}
 use lib.Ieee.Back.{round-whole}
 use lib.Ieee.Fits.{down-pos}

@@ -1,7 +1,7 @@
 -- The natural logarithm of a positive normal number, by its steps. Definitions, and examples of them.
 use Prim.Native.Nat.{ℕ, zero, suc, _+_, _*_, _/_, _%_, _^_}
 use mathlib.Core.Path.{_≡_, refl}
-use mathlib.Core.Bool.{true, false, cond, _&&_}
+use mathlib.Core.Bool.{false, cond, _&&_}
 use lib.IntN.{ℤ, pos, negsuc}
 use lib.Ieee.{Float, nan, inf, fin, binary64, add, sub, mul, div, lt, le, ofInt, ofBits, toBits, minus}
 use Rattle.exponent_table.specs.Reduction.{HI, LO, one, half}
