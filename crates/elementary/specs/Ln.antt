@@ -16,7 +16,7 @@ threeHalves = fin false 3 (negsuc 0)
 abbrev pub leastNormal : Float
 leastNormal = ofBits binary64 0x0010_0000_0000_0000
 
--- v = m·2^e, m from 1 up to below 2: m has v's digits below the exponent's field of 1, which is 1023
+-- v = m·2^e, m from 1 up to below 2: m has v's digits under the exponent's field 1023, which is that of 1
 unfoldable pub mantissa : Float → Float
 unfolding ofBits toBits
 mantissa v = ofBits binary64 (1023 * 2 ^ 52 + toBits binary64 v % 2 ^ 52)
@@ -62,16 +62,16 @@ unfoldable pub lnv : Float → Float
 unfolding lnParts mantissa exponent le lt ofBits ofInt
 lnv v = cond (le leastNormal v && lt v (inf false)) (lnParts (mantissa v) (ofInt binary64 (exponent v))) nan
 
--- ---- examples: ln(1), and the parts of 6 = 1.5·2^2, 1/4 and the least normal number
+-- ---- examples: ln(1), and the parts of 6 = 1.5·2^2 and of 2^-1022
 
-of-one : lnv one ≡ fin false 0 (pos 0)
+pub of-one : lnv one ≡ fin false 0 (pos 0)
 unfolding lnv
 of-one = refl
 
-parts-of-six : (mantissa (fin false 3 (pos 1)) ≡ threeHalves) × (exponent (fin false 3 (pos 1)) ≡ pos 2)
+pub parts-of-six : (mantissa (fin false 3 (pos 1)) ≡ threeHalves) × (exponent (fin false 3 (pos 1)) ≡ pos 2)
 unfolding mantissa exponent
 parts-of-six = (refl, refl)
 
-parts-of-least : (mantissa leastNormal ≡ one) × (exponent leastNormal ≡ negsuc 1021)
+pub parts-of-least : (mantissa leastNormal ≡ one) × (exponent leastNormal ≡ negsuc 1021)
 unfolding mantissa exponent ofBits
 parts-of-least = (refl, refl)
