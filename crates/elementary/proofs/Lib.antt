@@ -1,2 +1,4 @@
 pub mod StepsRange
 pub mod ExpRange
+pub mod WholeDifference
+pub mod SplitExact

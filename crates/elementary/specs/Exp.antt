@@ -29,18 +29,18 @@ expv v = cond (lt v floor708) nought (cond (le v nought) (expNear v) nan)
 
 -- ---- examples: both zeros, -709, and K at -708
 
-of-zero : expv (fin false 0 (pos 0)) ≡ fin false 1 (pos 0)
+pub of-zero : expv (fin false 0 (pos 0)) ≡ fin false 1 (pos 0)
 unfolding expv
 of-zero = refl
 
-of-minus-zero : expv (fin true 0 (pos 0)) ≡ fin false 1 (pos 0)
+pub of-minus-zero : expv (fin true 0 (pos 0)) ≡ fin false 1 (pos 0)
 unfolding expv
 of-minus-zero = refl
 
-of-minus-709 : expv (fin true 709 (pos 0)) ≡ fin false 0 (pos 0)
+pub of-minus-709 : expv (fin true 709 (pos 0)) ≡ fin false 0 (pos 0)
 unfolding expv
 of-minus-709 = refl
 
-k-at-the-floor : expK floor708 ≡ 1021
+pub k-at-the-floor : expK floor708 ≡ 1021
 unfolding expK
 k-at-the-floor = refl

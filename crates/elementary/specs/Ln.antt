@@ -1,9 +1,9 @@
 -- The natural logarithm of a positive normal number, by its steps. Definitions, and examples of them.
 use Prim.Native.Nat.{ℕ, zero, suc, _+_, _*_, _/_, _%_, _^_}
 use mathlib.Core.Path.{_≡_, refl}
-use mathlib.Core.Bool.{true, false, cond, _&&_}
-use lib.IntN.{pos, negsuc}
-use lib.Ieee.{Float, nan, inf, fin, binary64, add, sub, mul, div, lt, le, ofInt, ofBits, toBits}
+use mathlib.Core.Bool.{false, cond, _&&_}
+use lib.IntN.{ℤ, pos, negsuc}
+use lib.Ieee.{Float, nan, inf, fin, binary64, add, sub, mul, div, lt, le, ofInt, ofBits, toBits, minus}
 use Rattle.exponent_table.specs.Reduction.{HI, LO, one, half}
 
 abbrev pub two : Float
@@ -16,15 +16,15 @@ threeHalves = fin false 3 (negsuc 0)
 abbrev pub leastNormal : Float
 leastNormal = ofBits binary64 0x0010_0000_0000_0000
 
--- v = m·2^e, m from 1 up to below 2: m has v's digits below the exponent's field of 1, which is 1023
+-- v = m·2^e, m from 1 up to below 2: m has v's digits under the exponent's field 1023, which is that of 1
 unfoldable pub mantissa : Float → Float
 unfolding ofBits toBits
 mantissa v = ofBits binary64 (1023 * 2 ^ 52 + toBits binary64 v % 2 ^ 52)
 
--- and e is v's exponent's field less 1023, an exact difference
-unfoldable pub exponent : Float → Float
-unfolding sub ofInt toBits
-exponent v = sub binary64 (ofInt binary64 (pos (toBits binary64 v / 2 ^ 52))) (ofInt binary64 (pos 1023))
+-- and e is v's exponent's field less 1023
+unfoldable pub exponent : Float → ℤ
+unfolding toBits
+exponent v = minus (toBits binary64 v / 2 ^ 52) 1023
 
 -- s becomes 1/j + w·s
 unfoldable pub lnStep : Float → Float → ℕ → Float
@@ -59,19 +59,19 @@ lnParts m e = cond (le threeHalves m) (lnSplit (mul binary64 m half) (add binary
 
 -- for a positive normal v. For any other no steps are given, and the answer is NaN.
 unfoldable pub lnv : Float → Float
-unfolding lnParts mantissa exponent le lt ofBits
-lnv v = cond (le leastNormal v && lt v (inf false)) (lnParts (mantissa v) (exponent v)) nan
+unfolding lnParts mantissa exponent le lt ofBits ofInt
+lnv v = cond (le leastNormal v && lt v (inf false)) (lnParts (mantissa v) (ofInt binary64 (exponent v))) nan
 
--- ---- examples: ln(1), and the parts of 6 = 1.5·2^2, 1/4 and the least normal number
+-- ---- examples: ln(1), and the parts of 6 = 1.5·2^2 and of 2^-1022
 
-of-one : lnv one ≡ fin false 0 (pos 0)
+pub of-one : lnv one ≡ fin false 0 (pos 0)
 unfolding lnv
 of-one = refl
 
-parts-of-six : (mantissa (fin false 3 (pos 1)) ≡ threeHalves) × (exponent (fin false 3 (pos 1)) ≡ two)
+pub parts-of-six : (mantissa (fin false 3 (pos 1)) ≡ threeHalves) × (exponent (fin false 3 (pos 1)) ≡ pos 2)
 unfolding mantissa exponent
 parts-of-six = (refl, refl)
 
-parts-of-least : (mantissa leastNormal ≡ one) × (exponent leastNormal ≡ fin true 511 (pos 1))
+pub parts-of-least : (mantissa leastNormal ≡ one) × (exponent leastNormal ≡ negsuc 1021)
 unfolding mantissa exponent ofBits
 parts-of-least = (refl, refl)

@@ -1,15 +1,17 @@
--- `elementary::ln` meets its contract: its tests are the definition's. A number below infinity is no NaN, and m's pattern has the exponent's field 1023.
-use mathlib.Core.Path.{_≡_, sym, subst, _∙_}
+-- `elementary::ln` meets its contract: its tests are the definition's. A number below infinity is no NaN, m's pattern has the exponent's field 1023, and e is an exact difference.
+use mathlib.Core.Path.{_≡_, sym, subst, ap, _∙_}
 use mathlib.Core.Logic.{⊎-elim}
 use mathlib.Core.Bool.{true, not}
-use Prim.Native.Nat.{_^_, _<_}
+use Prim.Native.Nat.{ℕ, _/_, _^_, _<_}
 use native.Mathlib.Omega.{arith}
 use borrow.Author.Needs.{needs}
-use lib.Dec.{T}
-use lib.Ieee.{Float, nan, inf, fin, binary64, lt, div, ofBits, ofInt, toBits, isNan}
+use lib.Dec.{T, lit≤}
+use lib.IntN.{pos}
+use lib.Ieee.{Float, nan, inf, fin, binary64, lt, sub, div, minus, ofBits, ofInt, toBits, isNan}
 use lib.Ieee.Bits.{toBits-lt}
 use Rattle.exponent_table.proofs.Patterns.{no-nan}
-use Rattle.elementary.specs.Ln.{lnv, mantissa, exponent}
+use Rattle.elementary.specs.Ln.{lnv, lnParts, mantissa, exponent}
+use Rattle.elementary.proofs.WholeDifference.{whole-difference}
 use Rattle.elementary.proofs.ln.Statement.{statement}
 use Rattle.elementary.proofs.ln.Tie as tie
 
@@ -23,11 +25,20 @@ number (fin s m e') top e = tt
 bits-in : (c : tie.Start) → toBits binary64 (c .args .v) < 2 ^ 64
 bits-in c = toBits-lt binary64 (c .args .v) (subst T (sym (c .good .0 .1)) tt)
 
+-- e, the exact difference
+e-is : (b : ℕ) → b < 2 ^ 64 → sub binary64 (ofInt binary64 (pos (b / 2 ^ 52))) (ofBits binary64 0x408F_F800_0000_0000) ≡ ofInt binary64 (minus (b / 2 ^ 52) 1023)
+unfolding ofBits ofInt
+e-is b h = whole-difference (b / 2 ^ 52) 1023 (omega arith) (lit≤ tt)
+
 returns : tie.Need-returns
-unfolding lnv mantissa exponent ofBits ofInt
+unfolding lnv mantissa exponent ofBits
 returns c =
     let at = c .before .before in
-    c .ln-parts .ensures ∙ sym (rw (at .before .before .if1 .taken, rw (at .before .infinity .ensures) at (at .if2 .taken)))
+    let start = at .before .before .before in
+    let b = toBits binary64 (start .args .v) in
+    c .ln-parts .ensures
+    ∙ ap (λ (e : Float). lnParts (mantissa (start .args .v)) e) (e-is b (bits-in start))
+    ∙ sym (rw (at .before .before .if1 .taken, rw (at .before .infinity .ensures) at (at .if2 .taken)))
 
 returns-2 : tie.Need-returns-2
 unfolding lnv ofBits div
