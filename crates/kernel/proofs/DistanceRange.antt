@@ -1,0 +1,159 @@
+-- The distance between two places with finite coordinates is no NaN and not negative, and that of a place from itself is 0. Assumes nothing.
+use mathlib.Core.Path.{_≡_, refl, sym, ap, _∙_, subst}
+use mathlib.Core.Bool.{Bool, true, false, not, _&&_, cond, Bool·beq}
+use Prim.Native.Nat.{ℕ, zero, suc, _+_, _-_, _*_, _/_, _^_, _<_}
+use native.Mathlib.Nat.{sub-self, lt-irrefl, mul-pos, zero-mul, not-suc-le-zero}
+use lib.IntN.{pos}
+use lib.Dec.{T, ltb, ltb→lt}
+use lib.Ieee.{Float, nan, inf, fin, Format, binary64, up, down, prec, emax, low, size, odd, units, round, sum, add, sub, mul, neg, lt, le, ofBits, isNan}
+use lib.Ieee.Fits.{down-pos}
+use lib.Ieee.Scale.{finite}
+use Rattle.real.specs.Reals.{zero64}
+use Rattle.real.proofs.Values.{untrue}
+use Rattle.real.proofs.SignedOrder.{nonneg, round-nonneg, round-neg, zero-of, nat-above}
+use Rattle.root.specs.Root.{root, rootUnits, nearestRoot, inUnits, inf64}
+use Rattle.kernel.specs.Weight.{distanceOf}
+
+abbrev Number : Float → Type 0
+Number x = T (not (isNan x))
+
+-- ---- a difference of finite numbers is no NaN
+nonneg-number : (x : Float) → T (nonneg x) → Number x × Number (neg x)
+unfolding isNan neg
+nonneg-number nan p = absurd p
+nonneg-number (inf s) p = (tt, tt)
+nonneg-number (fin s m e) p = (tt, tt)
+
+round-number : (f : Format) (s : Bool) (a c : ℕ) → Number (round f s a c)
+round-number f false a c = nonneg-number (round f false a c) (round-nonneg f a c) .0
+round-number f true a c = subst Number (sym (round-neg f a c)) (nonneg-number (round f false a c) (round-nonneg f a c) .1)
+
+pick : (b : Bool) (x y : Float) → Number x → Number y → Number (cond b x y)
+pick true x y p q = p
+pick false x y p q = q
+
+sum-number : (f : Format) (s : Bool) (a : ℕ) (t : Bool) (b c : ℕ) → Number (sum f s a t b c)
+unfolding sum
+sum-number f s a t b c =
+    pick (Bool·beq s t) (round f s (a + b) c) (cond (ltb a b) (round f t (b - a) c) (round f (s && ltb b a) (a - b) c)) (round-number f s (a + b) c)
+    (pick (ltb a b) (round f t (b - a) c) (round f (s && ltb b a) (a - b) c) (round-number f t (b - a) c) (round-number f (s && ltb b a) (a - b) c))
+
+difference-number : (x y : Float) → T (finite x) → T (finite y) → Number (sub binary64 x y)
+unfolding sub add neg
+difference-number nan y p q = absurd p
+difference-number (inf s) y p q = absurd p
+difference-number (fin s m e) nan p q = absurd q
+difference-number (fin s m e) (inf t) p q = absurd q
+difference-number (fin s m e) (fin t n d) p q = sum-number binary64 s (m * up e * down d) (not t) (n * up d * down e) (down e * down d)
+
+-- ---- squares, their sum and its root have a clear sign
+square-nonneg : (x : Float) → Number x → T (nonneg (mul binary64 x x))
+unfolding mul isNan
+square-nonneg nan p = absurd p
+square-nonneg (inf true) p = tt
+square-nonneg (inf false) p = tt
+square-nonneg (fin true m e) p = round-nonneg binary64 (m * up e * (m * up e)) (down e * down e)
+square-nonneg (fin false m e) p = round-nonneg binary64 (m * up e * (m * up e)) (down e * down e)
+
+sum-nonneg : (x y : Float) → T (nonneg x) → T (nonneg y) → T (nonneg (add binary64 x y))
+unfolding add sum
+sum-nonneg nan y p q = absurd p
+sum-nonneg (inf true) y p q = absurd p
+sum-nonneg (inf false) nan p q = absurd q
+sum-nonneg (inf false) (inf true) p q = absurd q
+sum-nonneg (inf false) (inf false) p q = tt
+sum-nonneg (inf false) (fin t n d) p q = tt
+sum-nonneg (fin true m e) y p q = absurd p
+sum-nonneg (fin false m e) nan p q = absurd q
+sum-nonneg (fin false m e) (inf true) p q = absurd q
+sum-nonneg (fin false m e) (inf false) p q = tt
+sum-nonneg (fin false m e) (fin true n d) p q = absurd q
+sum-nonneg (fin false m e) (fin false n d) p q = round-nonneg binary64 (m * up e * down d + n * up d * down e) (down e * down d)
+
+odd-nonneg : (d q k l : ℕ) → T (nonneg (odd d false q k l))
+unfolding odd
+odd-nonneg d zero k l = tt
+odd-nonneg d (suc q) k l = tt
+
+units-nonneg : (f : Format) (q k : ℕ) → T (nonneg (units f false q k))
+unfolding units
+units-nonneg f q k = go (ltb (q * 2 ^ k) (2 ^ (low f + suc (emax f))))
+  where
+    go : (b : Bool) → T (nonneg (cond b (odd (suc (prec f)) false q k (low f)) (inf false)))
+    go true = odd-nonneg (suc (prec f)) q k (low f)
+    go false = tt
+
+root-units-nonneg : (n : ℕ) → T (nonneg (rootUnits n))
+unfolding rootUnits
+root-units-nonneg n = let h = (size n + 1) / 2 in units-nonneg binary64 (nearestRoot (n * 2 ^ 106 / 4 ^ h)) (h + 484)
+
+not-below : (x : Float) → T (nonneg x) → lt x (fin false 0 (pos 0)) ≡ false
+unfolding lt
+not-below nan p = refl
+not-below (inf true) p = absurd p
+not-below (inf false) p = refl
+not-below (fin true m e) p = absurd p
+not-below (fin false m e) p =
+    untrue (ltb (m * up e * 1) (0 * down e))
+    (λ t. not-suc-le-zero (subst (λ (z : ℕ). m * up e * 1 < z) (zero-mul (down e)) (ltb→lt (m * up e * 1) (0 * down e) t)))
+
+root-nonneg : (x : Float) → T (nonneg x) → T (nonneg (root x))
+unfolding root ofBits
+root-nonneg x p =
+    subst (λ (b : Bool). T (nonneg (cond b nan (cond (lt (fin false 0 (pos 0)) x && lt x inf64) (rootUnits (inUnits x)) x)))) (sym (not-below x p))
+    (go (lt (fin false 0 (pos 0)) x && lt x inf64))
+  where
+    go : (b : Bool) → T (nonneg (cond b (rootUnits (inUnits x)) x))
+    go true = root-units-nonneg (inUnits x)
+    go false = p
+
+nonneg-above : (x : Float) → T (nonneg x) → T (le (fin false 0 (pos 0)) x)
+nonneg-above nan p = absurd p
+nonneg-above (inf true) p = absurd p
+nonneg-above (inf false) p = unfold le in tt
+nonneg-above (fin true m e) p = absurd p
+nonneg-above (fin false m e) p = nat-above (fin false m e) tt
+
+module _ (ax ay bx by : Float) (fax : T (finite ax)) (fay : T (finite ay)) (fbx : T (finite bx)) (fby : T (finite by)) where
+  distance-nonneg : T (nonneg (distanceOf ax ay bx by))
+  unfolding distanceOf
+  distance-nonneg =
+      let dx = sub binary64 ax bx in
+      let dy = sub binary64 ay by in
+      root-nonneg (add binary64 (mul binary64 dx dx) (mul binary64 dy dy))
+      (sum-nonneg (mul binary64 dx dx) (mul binary64 dy dy) (square-nonneg dx (difference-number ax bx fax fbx)) (square-nonneg dy (difference-number ay by fay fby)))
+
+  -- what `weights-in` asks
+  pub distance-above : T (le zero64 (distanceOf ax ay bx by))
+  unfolding ofBits
+  distance-above = nonneg-above (distanceOf ax ay bx by) distance-nonneg
+
+  pub distance-number : T (not (isNan (distanceOf ax ay bx by)))
+  distance-number = nonneg-number (distanceOf ax ay bx by) distance-nonneg .0
+
+-- ---- a place from itself
+ltb-self : (a : ℕ) → ltb a a ≡ false
+ltb-self a = untrue (ltb a a) (λ t. lt-irrefl a (ltb→lt a a t))
+
+sum-itself : (s : Bool) (a c : ℕ) → 0 < c → sum binary64 s a (not s) a c ≡ fin false 0 (pos 0)
+unfolding sum
+sum-itself true a c C = rw (ltb-self, sub-self) (zero-of binary64 false c C)
+sum-itself false a c C = rw (ltb-self, sub-self) (zero-of binary64 false c C)
+
+less-itself : (x : Float) → T (finite x) → sub binary64 x x ≡ fin false 0 (pos 0)
+unfolding sub add neg
+less-itself nan p = absurd p
+less-itself (inf s) p = absurd p
+less-itself (fin s m e) p = sum-itself s (m * up e * down e) (down e * down e) (mul-pos (down-pos e) (down-pos e))
+
+root-of-none : (let z = fin false 0 (pos 0) in root (add binary64 (mul binary64 z z) (mul binary64 z z))) ≡ fin false 0 (pos 0)
+unfolding root add mul ofBits
+root-of-none = refl
+
+-- what `weight-zero` asks, with s = false
+pub distance-own : (x y : Float) → T (finite x) → T (finite y) → distanceOf x y x y ≡ fin false 0 (pos 0)
+unfolding distanceOf
+distance-own x y p q =
+    ap (λ (d : Float). root (add binary64 (mul binary64 d d) (mul binary64 (sub binary64 y y) (sub binary64 y y)))) (less-itself x p)
+    ∙ ap (λ (d : Float). let z = fin false 0 (pos 0) in root (add binary64 (mul binary64 z z) (mul binary64 d d))) (less-itself y q)
+    ∙ root-of-none

@@ -1,0 +1,2 @@
+pub mod WeightRange
+pub mod DistanceRange

@@ -1,0 +1,4 @@
+pub mod Inserts
+pub mod Walks
+pub mod Roots
+pub mod Smallest

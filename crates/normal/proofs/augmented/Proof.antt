@@ -1,0 +1,27 @@
+-- `normal::augmented` meets its contract.
+use borrow.Author.Needs.{needs}
+use Prim.Native.Nat.{_-_}
+use Rattle.real.proofs.Fold.{Range, none, more, done}
+use Rattle.normal.specs.Normal.{augmentStep, augmentedOf}
+use Rattle.normal.proofs.augmented.Statement.{statement}
+use Rattle.normal.proofs.augmented.Tie as tie
+
+abbrev Inv-loop : tie.InvT-loop
+Inv-loop a m r₀ p₀ r p = Range (augmentStep a m) r₀ 0 m p r
+
+abbrev μ-loop : tie.MeasureT-loop
+μ-loop a m r₀ p₀ r p = m - p
+
+pub augmented-spec : {M : Type 1} → statement M
+unfolding augmentStep augmentedOf
+augmented-spec =
+    tie.close
+    (tie.spec Inv-loop μ-loop
+    (λ c. none (search needs))
+    (λ c κs. search needs)
+    (λ c. search needs)
+    (λ c. search needs)
+    (λ c. search needs)
+    (λ c. search needs)
+    (λ c. more (c .before .before .loop .inv) (search needs) (rw (c .augmented-row .ensures)))
+    (λ c. done (c .before .loop .inv) (search needs)))

@@ -1,0 +1,30 @@
+-- `normal::augmented_row` meets its contract.
+use borrow.Author.Needs.{needs}
+use Prim.Native.Nat.{_-_}
+use Rattle.real.proofs.Fold.{Range, none, more, done}
+use Rattle.normal.specs.Normal.{mirrorStep, augmentedRow}
+use Rattle.normal.proofs.augmented_row.Statement.{statement}
+use Rattle.normal.proofs.augmented_row.Tie as tie
+
+abbrev Inv-loop : tie.InvT-loop
+Inv-loop a p m r₀ q₀ r q = Range (mirrorStep a p) r₀ 0 m q r
+
+abbrev μ-loop : tie.MeasureT-loop
+μ-loop a p m r₀ q₀ r q = m - q
+
+pub augmented-row-spec : {M : Type 1} → statement M
+unfolding mirrorStep augmentedRow
+augmented-row-spec =
+    tie.close
+    (tie.spec Inv-loop μ-loop
+    (λ c. none (search needs))
+    (λ c κs. search needs)
+    (λ c. search needs)
+    (λ c. search needs)
+    (λ c. search needs)
+    (λ c. search needs)
+    (λ c. more (c .before .before .loop .inv) (search needs) (rw (c .mirrored .ensures)))
+    (λ c. search needs)
+    (λ c. search needs)
+    (λ c. search needs)
+    (λ c. rw (done (c .before .loop .inv) (search needs))))

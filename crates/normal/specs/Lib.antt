@@ -1,0 +1,3 @@
+pub mod Data
+pub mod Weights
+pub mod Normal

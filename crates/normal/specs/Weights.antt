@@ -1,0 +1,31 @@
+-- The weights of the observations, seen from a place: the first loop of 000's `solve_local`. Definitions only.
+use Prim.Native.Nat.{ℕ, _+_, _*_}
+use mathlib.Core.List.{List}
+use lib.ListN.{getD, set, replicate}
+use lib.Ieee.{Float, nan, binary64, add}
+use Rattle.real.specs.Fold.{range}
+use Rattle.real.specs.Reals.{zero64}
+use Rattle.kernel.specs.declared.GwrKernel.{GwrKernel}
+use Rattle.kernel.specs.Weight.{weightOf, distanceOf}
+use Rattle.normal.specs.Data.{Data}
+
+-- `*w = kw; weight_sum += kw;` for observation j, whose weight is v j
+unfoldable pub weighStep : (ℕ → Float) → ℕ → List Float × Float → List Float × Float
+weighStep v j s = (set (s .0) j (v j), add binary64 (s .1) (v j))
+
+-- the weights of n observations into the list w, and their sum in order, for any weight function v
+unfoldable pub weightsBy : (ℕ → Float) → ℕ → List Float → List Float × Float
+weightsBy v n w = range (weighStep v) 0 n (w, zero64)
+
+-- `kernel.weight(d, bandwidth)` of observation j, d its distance from the place (east, north), b the bandwidth
+unfoldable pub weightFrom : List Float → Float → Float → GwrKernel → Float → ℕ → Float
+weightFrom coords east north k b j =
+    weightOf k (distanceOf east north (getD coords (2 * j) nan) (getD coords (2 * j + 1) nan)) b
+
+-- `weights` and `weight_sum` seen from location i; places past observation n - 1 are zero
+unfoldable pub weightsAt : Data → GwrKernel → ℕ → Float → List Float × Float
+weightsAt d k i b =
+    weightsBy
+    (weightFrom (d .coords) (getD (d .coords) (2 * i) nan) (getD (d .coords) (2 * i + 1) nan) k b)
+    (d .n)
+    (replicate 512 zero64)
