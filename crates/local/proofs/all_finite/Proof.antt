@@ -1,0 +1,34 @@
+-- `local::all_finite` meets its contract.
+use borrow.Author.Needs.{needs}
+use Prim.Native.Nat.{_-_}
+use lib.ListN.{getD}
+use lib.Ieee.{nan}
+use mathlib.Core.Path.{_∙_}
+use Rattle.real.proofs.Fold.{Range, none, more, done}
+use mathlib.Core.Bool.{true}
+use lib.Ieee.Scale.{finite}
+use Rattle.local.specs.Inner.{allStep, allOf}
+use Rattle.local.specs.Estimate.{coefficientsFinite}
+use Rattle.local.proofs.all_finite.Statement.{statement}
+use Rattle.local.proofs.all_finite.Tie as tie
+
+abbrev Inv-loop : tie.InvT-loop
+Inv-loop m u good₀ q₀ good q = Range (allStep (λ k. finite (getD u k nan))) true 0 m q good
+
+abbrev μ-loop : tie.MeasureT-loop
+μ-loop m u good₀ q₀ good q = m - q
+
+pub all-finite-spec : {M : Type 1} → statement M
+unfolding allStep allOf coefficientsFinite
+all-finite-spec =
+    tie.close
+    (tie.spec Inv-loop μ-loop
+    (λ c. none (search needs))
+    (λ c. search needs)
+    (λ c. search needs)
+    (λ c κs. search needs)
+    (λ c κs. search needs)
+    (λ c. search needs)
+    (λ c. search needs)
+    (λ c. more (c .before .before .before .loop .inv) (search needs) (c .both .ensures ∙ rw (c .before .is-finite .ensures)))
+    (λ c. done (c .before .loop .inv) (search needs)))

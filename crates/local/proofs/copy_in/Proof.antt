@@ -1,0 +1,29 @@
+-- `local::copy_in` meets its contract.
+use Prim.Native.Nat.{_-_}
+use borrow.Author.Needs.{needs}
+use native.Mathlib.Omega.{arith}
+use lib.Ieee.{nan}
+use Rattle.local.proofs.Copies.{Copied, start, next, done}
+use Rattle.local.proofs.copy_in.Statement.{statement}
+use Rattle.local.proofs.copy_in.Tie as tie
+
+abbrev Inv-loop : tie.InvT-loop
+Inv-loop out₀ m beta q₀ out q = Copied beta out₀ m q out
+
+abbrev μ-loop : tie.MeasureT-loop
+μ-loop out₀ m beta q₀ out q = m - q
+
+pub copy-in-spec : {M : Type 1} → statement M
+copy-in-spec =
+    tie.close
+    (tie.spec Inv-loop μ-loop
+    (λ c. start)
+    (λ c. search needs)
+    (λ c. search needs)
+    (λ c. search needs)
+    (λ c. search needs)
+    (λ c. search needs)
+    (λ c. search needs)
+    (λ c. next nan (c .before .loop .inv) (search needs) (search needs) (search needs))
+    (λ c. search needs)
+    (λ c. done (c .before .loop .inv) (search needs)))

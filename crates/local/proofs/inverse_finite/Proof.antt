@@ -1,0 +1,29 @@
+-- `local::inverse_finite` meets its contract.
+use borrow.Author.Needs.{needs}
+use Prim.Native.Nat.{_-_}
+use mathlib.Core.Path.{_∙_}
+use mathlib.Core.Bool.{true}
+use Rattle.real.proofs.Fold.{Range, none, more, done}
+use Rattle.local.specs.Inner.{allStep, allOf}
+use Rattle.local.specs.Estimate.{inverseRowFinite, inverseFinite}
+use Rattle.local.proofs.inverse_finite.Statement.{statement}
+use Rattle.local.proofs.inverse_finite.Tie as tie
+
+abbrev Inv-loop : tie.InvT-loop
+Inv-loop a m good₀ p₀ good p = Range (allStep (inverseRowFinite a m)) true 0 m p good
+
+abbrev μ-loop : tie.MeasureT-loop
+μ-loop a m good₀ p₀ good p = m - p
+
+pub inverse-finite-spec : {M : Type 1} → statement M
+unfolding allStep allOf inverseFinite
+inverse-finite-spec =
+    tie.close
+    (tie.spec Inv-loop μ-loop
+    (λ c. none (search needs))
+    (λ c κs. search needs)
+    (λ c κs. search needs)
+    (λ c. search needs)
+    (λ c. search needs)
+    (λ c. more (c .before .before .before .loop .inv) (search needs) (c .both .ensures ∙ rw (c .before .row-finite .ensures)))
+    (λ c. done (c .before .loop .inv) (search needs)))

@@ -1,0 +1,33 @@
+-- `local::inverse_times` meets its contract.
+use borrow.Author.Needs.{needs}
+use Prim.Native.Nat.{_-_}
+use mathlib.Core.Path.{refl}
+use Rattle.real.proofs.Fold.{Range, none, more, done}
+use Rattle.real.specs.Reals.{zero64}
+use Rattle.local.specs.Inner.{inverseCell, inverseStep, inverseTimes}
+use Rattle.local.proofs.inverse_times.Statement.{statement}
+use Rattle.local.proofs.inverse_times.Tie as tie
+
+abbrev Inv-loop : tie.InvT-loop
+Inv-loop a p m v acc₀ q₀ acc q = Range (inverseStep a m p v) zero64 0 m q acc
+
+abbrev μ-loop : tie.MeasureT-loop
+μ-loop a p m v acc₀ q₀ acc q = m - q
+
+pub inverse-times-spec : {M : Type 1} → statement M
+unfolding inverseCell inverseStep inverseTimes
+inverse-times-spec =
+    tie.close
+    (tie.spec Inv-loop μ-loop
+    (λ c. none (search needs))
+    (λ c. search needs)
+    (λ c. search needs)
+    (λ c. search needs)
+    (λ c. search needs)
+    (λ c. search needs)
+    (λ c. search needs)
+    (λ c. search needs)
+    (λ c. search needs)
+    (λ c. search needs)
+    (λ c. more (c .before .before .loop .inv) (search needs) refl)
+    (λ c. done (c .before .loop .inv) (search needs)))

@@ -1,0 +1,28 @@
+-- `local::leverage` meets its contract.
+use borrow.Author.Needs.{needs}
+use Prim.Native.Nat.{_-_}
+use Rattle.real.proofs.Fold.{Range, none, more, done}
+use Rattle.real.specs.Reals.{zero64}
+use Rattle.local.specs.Evaluate.{quadStep, leverageOf}
+use Rattle.local.proofs.leverage.Statement.{statement}
+use Rattle.local.proofs.leverage.Tie as tie
+
+abbrev Inv-loop : tie.InvT-loop
+Inv-loop inverse own m row quad₀ p₀ quad p = Range (quadStep inverse row m) zero64 0 m p quad
+
+abbrev μ-loop : tie.MeasureT-loop
+μ-loop inverse own m row quad₀ p₀ quad p = m - p
+
+pub leverage-spec : {M : Type 1} → statement M
+unfolding quadStep leverageOf
+leverage-spec =
+    tie.close
+    (tie.spec Inv-loop μ-loop
+    (λ c. none (search needs))
+    (λ c. search needs)
+    (λ c. search needs)
+    (λ c κs. search needs)
+    (λ c. search needs)
+    (λ c. search needs)
+    (λ c. more (c .before .before .loop .inv) (search needs) (rw (c .inverse-times .ensures)))
+    (λ c. rw (done (c .before .loop .inv) (search needs))))

@@ -1,0 +1,35 @@
+-- `local::row_finite` meets its contract.
+use borrow.Author.Needs.{needs}
+use Prim.Native.Nat.{_-_}
+use mathlib.Core.Path.{_∙_}
+use Rattle.real.proofs.Fold.{Range, none, more, done}
+use mathlib.Core.Bool.{true}
+use lib.Ieee.Scale.{finite}
+use Rattle.local.specs.Inner.{inverseCell, allStep, allOf}
+use Rattle.local.specs.Estimate.{inverseRowFinite}
+use Rattle.local.proofs.row_finite.Statement.{statement}
+use Rattle.local.proofs.row_finite.Tie as tie
+
+abbrev Inv-loop : tie.InvT-loop
+Inv-loop a p m good₀ q₀ good q = Range (allStep (λ k. finite (inverseCell a m p k))) true 0 m q good
+
+abbrev μ-loop : tie.MeasureT-loop
+μ-loop a p m good₀ q₀ good q = m - q
+
+pub row-finite-spec : {M : Type 1} → statement M
+unfolding inverseCell allStep allOf inverseRowFinite
+row-finite-spec =
+    tie.close
+    (tie.spec Inv-loop μ-loop
+    (λ c. none (search needs))
+    (λ c. search needs)
+    (λ c. search needs)
+    (λ c. search needs)
+    (λ c. search needs)
+    (λ c. search needs)
+    (λ c κs. search needs)
+    (λ c κs. search needs)
+    (λ c. search needs)
+    (λ c. search needs)
+    (λ c. more (c .before .before .before .before .loop .inv) (search needs) (c .both .ensures ∙ rw (c .before .is-finite .ensures)))
+    (λ c. done (c .before .loop .inv) (search needs)))

@@ -1,0 +1,5 @@
+pub mod Inner
+pub mod Estimate
+pub mod Evaluate
+pub mod Solve
+pub mod Row
