@@ -1,0 +1,15 @@
+-- `gwr::try_point` meets its contract.
+use borrow.Author.Needs.{needs}
+use Rattle.gwr.proofs.Searches.{trial-is}
+use Rattle.gwr.proofs.try_point.Statement.{statement}
+use Rattle.gwr.proofs.try_point.Tie as tie
+
+pub try-point-spec : {M : Type 1} → statement M
+try-point-spec =
+    tie.close
+    (tie.spec
+    (λ c κs. search needs)
+    (λ c κs. search needs)
+    (λ c κs. search needs)
+    (λ c κs. search needs)
+    (λ c. trial-is _ _ _ _ _ _ _ (search needs) (c .before .before .before .bandwidth-at .ensures .is) (c .before .before .sweep-all .ensures) (c .before .ending .ensures) (c .score .ensures)))

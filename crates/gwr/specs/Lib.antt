@@ -1,0 +1,3 @@
+pub mod Sweep
+pub mod Search
+pub mod Fit
