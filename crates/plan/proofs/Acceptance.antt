@@ -26,12 +26,12 @@ use Rattle.plan.specs.Shape.{Shaped, Accepted}
 -- ---- lists of tests
 
 -- a list that passes: its first test does not hold, and the rest passes
-pass-head : (b : Bool) (r : Refusal) (ts : List (Bool × Refusal)) → judge ((b, r) ∷ ts) ≡ check.Pass → (b ≡ false) × (judge ts ≡ check.Pass)
+pub pass-head : (b : Bool) (r : Refusal) (ts : List (Bool × Refusal)) → judge ((b, r) ∷ ts) ≡ check.Pass → (b ≡ false) × (judge ts ≡ check.Pass)
 unfolding judge
 pass-head true r ts h = (cc, cc)
 pass-head false r ts h = (refl, h)
 
-pass-append : (ts us : List (Bool × Refusal)) → judge (ts ++ us) ≡ check.Pass → (judge ts ≡ check.Pass) × (judge us ≡ check.Pass)
+pub pass-append : (ts us : List (Bool × Refusal)) → judge (ts ++ us) ≡ check.Pass → (judge ts ≡ check.Pass) × (judge us ≡ check.Pass)
 unfolding judge
 pass-append [] us h = (refl, h)
 pass-append (t ∷ ts) us h =

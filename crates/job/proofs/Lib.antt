@@ -1,0 +1,5 @@
+pub mod Steps
+pub mod Records
+pub mod Keeping
+pub mod Runs
+pub mod Judging
