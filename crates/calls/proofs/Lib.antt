@@ -1,0 +1,4 @@
+pub mod Bounds
+pub mod Bytes
+pub mod Answers
+pub mod Counts

@@ -1,0 +1,14 @@
+-- `calls::store_rows` meets its contract.
+use borrow.Author.Needs.{needs}
+use mathlib.Core.Path.{refl, sym, _∙_}
+use Rattle.calls.proofs.Bytes.{rows-placed}
+use Rattle.calls.proofs.store_rows.Statement.{statement}
+use Rattle.calls.proofs.store_rows.Tie as tie
+
+pub store-rows-spec : {M : Type 1} → statement M
+store-rows-spec =
+    tie.close
+    (tie.spec
+    (λ c κs. search needs)
+    (λ c. search needs)
+    (λ c. c .before .before .encode .ensures ∙ rows-placed _ _ _ (c .before .before .before .before .before .before .pre .0)))
