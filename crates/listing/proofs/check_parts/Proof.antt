@@ -1,0 +1,25 @@
+-- `listing::check_parts` meets its contract.
+use borrow.Author.Needs.{needs}
+use borrow.Author.Tests.{eq-eqb, ne-eqb, lt-ltb, le-ltb}
+use native.Mathlib.Omega.{arith}
+use native.Mathlib.Nat.{mul-le-mul}
+use Rattle.plan.specs.Checks.{judge}
+use Rattle.listing.specs.Jobs.{cutTests}
+use Rattle.listing.proofs.check_parts.Statement.{statement}
+use Rattle.listing.proofs.check_parts.Tie as tie
+
+pub check-parts-spec : {M : Type 1} → statement M
+unfolding judge cutTests
+check-parts-spec =
+    tie.close
+    (tie.spec
+    (λ c. search needs)
+    (λ c. omega (arith, mul-le-mul (c .pre .0) (c .pre .1)))
+    (λ c. omega (arith, mul-le-mul (c .pre .0) (c .pre .1)))
+    (λ c. omega (arith, mul-le-mul (c .pre .0) (c .pre .1)))
+    (λ c. rw (lt-ltb _ _ (c .if1 .taken)))
+    (λ c. rw (le-ltb _ _ (c .before .if1 .left), lt-ltb _ _ (c .if2 .taken)))
+    (λ c. search needs)
+    (λ c. omega (arith, mul-le-mul (c .before .before .pre .0) (c .before .before .pre .1)))
+    (λ c. rw (le-ltb _ _ (c .before .before .if1 .left), le-ltb _ _ (c .before .if2 .left), lt-ltb _ _ (c .if3 .taken)))
+    (λ c. rw (le-ltb _ _ (c .before .before .if1 .left), le-ltb _ _ (c .before .if2 .left), le-ltb _ _ (c .if3 .left))))

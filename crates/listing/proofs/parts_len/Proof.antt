@@ -1,0 +1,17 @@
+-- `listing::parts_len` meets its contract.
+use borrow.Author.Needs.{needs}
+use native.Mathlib.Omega.{arith}
+use native.Mathlib.Nat.{mul-le-mul}
+use mathlib.Core.Path.{refl}
+use Prim.Native.Nat.{_+_, _≤_}
+use Rattle.listing.proofs.parts_len.Statement.{statement}
+use Rattle.listing.proofs.parts_len.Tie as tie
+
+pub parts-len-spec : {M : Type 1} → statement M
+parts-len-spec =
+    tie.close
+    (tie.spec
+    (λ c. search needs)
+    (λ c. let m : c .args .p + 3 ≤ 10 = omega arith in omega (arith, mul-le-mul (c .pre .0) m))
+    (λ c. let m : c .args .p + 3 ≤ 10 = omega arith in omega (arith, mul-le-mul (c .pre .0) m))
+    (λ c. let m : c .args .p + 3 ≤ 10 = omega arith in (refl, omega (arith, mul-le-mul (c .pre .0) m))))

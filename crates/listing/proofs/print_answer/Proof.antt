@@ -1,0 +1,18 @@
+-- `listing::print_answer` meets its contract.
+use borrow.Author.Needs.{needs}
+use native.Mathlib.Omega.{arith}
+use mathlib.Core.Path.{_≡_}
+use Rattle.listing.proofs.Texts.{line-is, refused-text, listing-text}
+use Rattle.listing.proofs.print_answer.Statement.{statement}
+use Rattle.listing.proofs.print_answer.Tie as tie
+
+pub print-answer-spec : {M : Type 1} → statement M
+print-answer-spec =
+    tie.close
+    (tie.spec
+    (λ c κs. search needs)
+    (λ c. search needs)
+    (λ c. line-is _ _ _ _ _ (c .before .before .put-refused .ensures) (refused-text _ _ _ (c .before .before .before .before .if1 .taken)))
+    (λ c κs. let z : c .before .before .before .before .before .args .number ≡ 0 = omega arith in ((omega arith, omega arith, search needs, search needs), (search needs, omega (arith, c .before .before .before .before .before .pre .1 z))))
+    (λ c. search needs)
+    (λ c. line-is _ _ _ _ _ (c .before .before .put-fit .ensures) (listing-text _ _ _ (c .before .before .before .before .if1 .left))))
