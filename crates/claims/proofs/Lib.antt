@@ -1,0 +1,10 @@
+pub mod Leading
+pub mod Sweeping
+pub mod Searching
+pub mod Fitting
+pub mod Holding
+pub mod Starting
+pub mod Playing
+pub mod Best
+pub mod Rising
+pub mod DemandThree

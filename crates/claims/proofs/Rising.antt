@@ -1,0 +1,88 @@
+-- Solves rise by one with each step, and from the final fit on the bandwidth stays.
+use mathlib.Core.Path.{_≡_, refl, sym, ap, subst, subst⁻¹, _∙_}
+use mathlib.Core.Bool.{Bool, true, false, cond}
+use mathlib.Core.List.{List}
+use Prim.Native.Nat.{ℕ, zero, suc, _+_, _*_, _-_, _≤_, _<_}
+use native.Mathlib.Nat.{mul-le-mul}
+use native.Mathlib.Omega.{arith}
+use lib.Dec.{eqb}
+use lib.Ieee.{Float}
+use Rattle.normal.specs.Data.{Data}
+use Rattle.local.specs.declared.Outcome.{Outcome}
+use Rattle.local.specs.declared.Outcome.the-variants as outcome
+use Rattle.criterion.specs.declared.Criterion.{Criterion}
+use Rattle.criterion.specs.Aicc.{correctedAic, scoreOf}
+use Rattle.golden.specs.Golden.{narrowOf}
+use Rattle.job.specs.declared.Stage.{Stage}
+use Rattle.job.specs.declared.Stage.the-variants.{First, Second, Round, Final, Ended}
+use Rattle.job.specs.declared.Setup.{Setup}
+use Rattle.job.specs.declared.Job.{Job}
+use Rattle.job.specs.Step.{lastRound, closeAt, closeOf, addedJob, advanceOf, countedJob, afterSolve, solveOf, stepJob, stepOf, endedAt, overOf}
+use Rattle.job.specs.Run.{steps}
+use Rattle.job.specs.Fitness.{Sound}
+use Rattle.job.proofs.Records.{trials-few, ended-few}
+use Rattle.claims.specs.Turns.{State, settled}
+use Rattle.claims.proofs.Leading.{Leads, leads-on}
+use Rattle.claims.proofs.Holding.{Held, Holds}
+
+either : (P : Job → Type 0) (b : Bool) (x y : Job) → P x → P y → P (cond b x y)
+either P true x y f g = f
+either P false x y f g = g
+
+never : {A : Type 0} → false ≡ true → A
+never h = let z : _≡_ {A = ℕ} 0 1 = cc in absurd (omega arith)
+
+-- ---- solves
+
+close-solves : (x : Stage) (j : Job) (c : Criterion) → closeAt x j c .solves ≡ j .solves
+close-solves First j c = refl
+close-solves Second j c = refl
+close-solves Round j c = either (λ (k : Job). k .solves ≡ j .solves) (lastRound (j .trials) (narrowOf (j .bracket) (scoreOf c))) _ _ refl refl
+close-solves Final j c = refl
+close-solves (Ended x) j c = refl
+
+after-solves : (j : Job) (o : Outcome) → afterSolve j o .solves ≡ j .solves
+unfolding advanceOf closeOf
+after-solves j (outcome.Found v) = either (λ (k : Job). k .solves ≡ j .solves) (eqb (j .location + 1) (j .setup .n)) _ _ (close-solves (j .stage) (addedJob j v) _) refl
+after-solves j (outcome.Refused r) = close-solves (j .stage) j _
+
+pub steps-solves : (d : Data) (k : ℕ) (s : State) → steps (stepOf d) k s .0 .solves ≡ s .0 .solves + k
+unfolding steps stepOf stepJob
+steps-solves d zero s = omega arith
+steps-solves d (suc k) s = omega (arith, steps-solves d k (stepOf d s), after-solves (countedJob (s .0)) (solveOf d (s .0) .outcome))
+
+-- a state that holds has made at most 103 × n solves
+pub few-solves : (u : Setup) (long : ℕ) (s : State) → Holds u long s → s .0 .solves ≤ 103 * u .n
+few-solves u long s h =
+    let k = h .held in
+    let j = s .0 in
+    let t : j .trials * j .setup .n ≤ 102 * j .setup .n = mul-le-mul (trials-few (j .stage) (j .trials) (k .trials)) (omega arith) in
+    subst (λ (w : Setup). j .solves ≤ 103 * w .n) (h .setup) (omega (arith, k .solves, k .within, ended-few (j .stage)))
+
+-- ---- the bandwidth
+
+-- in the final fit, or ended, with the bandwidth of j
+abbrev Stays : Job → Job → Type 0
+Stays j k = (settled (k .stage) ≡ true) × (k .bandwidth ≡ j .bandwidth)
+
+close-stays : (x : Stage) (j : Job) (c : Criterion) → x ≡ Final → Stays j (closeAt x j c)
+close-stays x j c e = subst⁻¹ (λ (z : Stage). Stays j (closeAt z j c)) e (refl, refl)
+
+after-stays : (j : Job) (o : Outcome) → j .stage ≡ Final → Stays j (afterSolve j o)
+unfolding advanceOf closeOf
+after-stays j (outcome.Found v) e = either (Stays j) (eqb (j .location + 1) (j .setup .n)) _ _ (close-stays (j .stage) (addedJob j v) _ e) (ap settled e, refl)
+after-stays j (outcome.Refused r) e = close-stays (j .stage) j _ e
+
+final-of : (x : Stage) → settled x ≡ true → endedAt x ≡ false → x ≡ Final
+final-of First h e = never h
+final-of Second h e = never h
+final-of Round h e = never h
+final-of Final h e = refl
+final-of (Ended c) h e = never (sym e)
+
+pub stays : (d : Data) (k : ℕ) (s t : State) → Leads (stepOf d) overOf k s t → settled (s .0 .stage) ≡ true → t .0 .bandwidth ≡ s .0 .bandwidth
+unfolding steps stepOf stepJob
+stays d zero s t l h = ap (λ (z : State). z .0 .bandwidth) (sym (l .to))
+stays d (suc k) s t l h =
+    let z = after-stays (countedJob (s .0)) (solveOf d (s .0) .outcome) (final-of (s .0 .stage) h (l .live 0 (omega arith))) in
+    stays d k (stepOf d s) t (record { to = l .to; live = λ i q. l .live (suc i) (omega arith) }) (z .0) ∙ z .1

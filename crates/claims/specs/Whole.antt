@@ -1,0 +1,90 @@
+-- What demand 3 says of the uninterrupted fit: its solve count, its final bandwidth and its trials. Definitions only.
+use Prim.Native.Nat.{ℕ, zero, suc}
+use mathlib.Core.Path.{_≡_}
+use mathlib.Core.Bool.{cond}
+use mathlib.Core.List.{List, [], _∷_, _++_}
+use lib.Dec.{T}
+use lib.Ieee.{Float, le}
+use Rattle.real.specs.Fold.{range}
+use Rattle.neighbours.specs.declared.GwrBandwidth.{GwrBandwidth}
+use Rattle.normal.specs.Data.{Data}
+use Rattle.golden.specs.Golden.{startOf, aimOf}
+use Rattle.plan.specs.declared.GwrOptions.{GwrOptions}
+use Rattle.plan.specs.declared.Plan.{Plan}
+use Rattle.plan.specs.declared.Plan.the-variants as plan
+use Rattle.plan.specs.Plan.{bandwidthAt}
+use Rattle.gwr.specs.declared.Search.{Search}
+use Rattle.gwr.specs.declared.FitAnswer.{FitAnswer}
+use Rattle.gwr.specs.declared.FitAnswer.the-variants as fit
+use Rattle.gwr.specs.Search.{trialOf, roundOf, openedOf, goldenOf}
+use Rattle.job.specs.declared.Answer.{Answer}
+use Rattle.job.specs.declared.Answer.the-variants as answer
+
+-- 01: the solve count is the number of local solves in all sweeps, failing ones included; the fit's summary has it
+abbrev pub countOf : FitAnswer → ℕ
+countOf (fit.Fitted s) = s .solves
+countOf (fit.Failed r s) = s .solves
+countOf (fit.Rejected r) = 0
+
+-- 01: a turn answers ended with the summary and any refusal: those of the fit
+abbrev pub endedWith : FitAnswer → Answer
+endedWith (fit.Fitted s) = answer.Ended s
+endedWith (fit.Failed r s) = answer.Failed r s
+endedWith (fit.Rejected r) = answer.Refused r
+
+-- 01: the final fit is at the point `golden_section_min` finds, at lo (L) if a search has no trial, and unsearched at the given distance or count; the plan has all but the first
+abbrev pub finalBandwidth : Plan → Data → GwrOptions → GwrBandwidth
+finalBandwidth (plan.Refused r) d o = o .bandwidth
+finalBandwidth (plan.Settled b) d o = b
+finalBandwidth (plan.Sought lo hi) d o = bandwidthAt (o .bandwidth) (goldenOf d o lo hi .bracket .best) (d .n) (d .p)
+
+-- the solves made before the final fit
+abbrev pub searchSolves : Plan → Data → GwrOptions → ℕ
+searchSolves (plan.Refused r) d o = 0
+searchSolves (plan.Settled b) d o = 0
+searchSolves (plan.Sought lo hi) d o = goldenOf d o lo hi .solves
+
+-- ---- the trials of a search, in their order
+
+-- a trial: its point and its score
+pub record Scored : Type 0 where
+  pub point : Float
+  pub score : Float
+
+abbrev pub scoredAt : Data → GwrOptions → Float → Scored
+scoredAt d o point = record { point = point; score = trialOf d o point .score }
+
+-- the search after r rounds of `for _ in 0..100`
+abbrev pub afterRounds : Data → GwrOptions → Float → Float → ℕ → Search
+afterRounds d o lo hi r = range (roundOf d o) 0 r (openedOf d o (startOf lo hi))
+
+-- 01: trial 1 is c, trial 2 is d; then each round's, until the loop is left
+unfoldable pub triedOf : Data → GwrOptions → Float → Float → ℕ → List Scored
+triedOf d o lo hi zero = scoredAt d o (startOf lo hi .c) ∷ scoredAt d o (startOf lo hi .d) ∷ []
+triedOf d o lo hi (suc r) =
+    let s = afterRounds d o lo hi r in
+    let l = triedOf d o lo hi r in
+    cond (s .over) l (l ++ (scoredAt d o (aimOf (s .bracket)) ∷ []))
+
+-- every trial that the fit makes
+abbrev pub trialsOf : Plan → Data → GwrOptions → List Scored
+trialsOf (plan.Refused r) d o = []
+trialsOf (plan.Settled b) d o = []
+trialsOf (plan.Sought lo hi) d o = triedOf d o lo hi 100
+
+-- P of each
+abbrev pub All : {A : Type 0} → (A → Type 0) → List A → Type 0
+All P [] = Unit {0}
+All P (t ∷ l) = P t × All P l
+
+-- the score of t is at most that of every trial of l
+abbrev pub Least : Scored → List Scored → Type 0
+Least t l = All (λ (w : Scored). T (le (t .score) (w .score))) l
+
+-- t is the earliest trial of l whose score is at most that of every other
+pub record Earliest (t : Scored) (l : List Scored) : Type 0 where
+  pub before : List Scored
+  pub behind : List Scored
+  pub place : l ≡ before ++ (t ∷ behind)
+  pub least : Least t l
+  pub first : All (λ (w : Scored). Least w l → ⊥) before
