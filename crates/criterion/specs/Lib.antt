@@ -1,1 +1,2 @@
 pub mod Aicc
+pub mod Published

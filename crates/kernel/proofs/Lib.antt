@@ -1,2 +1,3 @@
 pub mod WeightRange
 pub mod DistanceRange
+pub mod Published

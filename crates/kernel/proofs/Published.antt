@@ -1,0 +1,62 @@
+-- The weight of a usable bandwidth is the published formula with each operation rounded once, in 000's order; an unusable one leaves the formula. The formulas on fractions are the published ones. Assumes nothing.
+use mathlib.Core.Path.{_≡_, refl}
+use mathlib.Core.Bool.{Bool, true, false, not, cond}
+use Prim.Native.Nat.{ℕ, _-_, _*_, _≤_, _<_}
+use native.Mathlib.Nat.{mul-assoc, mul-comm, mul-one, one-mul, mul-le-mul, le-of-lt, le-of-eq, le-trans}
+use borrow.Author.Tests.{lt-ltb, le-ltb, le-leb}
+use lib.Dec.{T}
+use lib.Ieee.{Float, eq}
+use lib.Ieee.Bits.{is-true, is-false}
+use Rattle.real.specs.Reals.{zero64, one64}
+use Rattle.kernel.specs.declared.GwrKernel.{GwrKernel}
+use Rattle.kernel.specs.declared.GwrKernel.the-variants.{Gaussian, Bisquare, Exponential}
+use Rattle.kernel.specs.Weight.{unusable, degenerateWeight, gaussianWeight, bisquareWeight, exponentialWeight, kernelWeight, weightOf}
+use Rattle.kernel.specs.Published.{gaussianFormula, bisquareFormula, exponentialFormula, formula, rounded, exact, Fraction, fraction, power, plain}
+
+-- ---- binary64
+
+kernel-formula : (k : GwrKernel) (d b : Float) → kernelWeight k d b ≡ formula rounded k d b
+unfolding gaussianWeight bisquareWeight exponentialWeight gaussianFormula bisquareFormula exponentialFormula
+kernel-formula Gaussian d b = refl
+kernel-formula Bisquare d b = refl
+kernel-formula Exponential d b = refl
+
+-- a bandwidth that is finite and above 0: the formula, each operation rounded once
+pub weight-rounded : (k : GwrKernel) (d b : Float) → T (not (unusable b)) → weightOf k d b ≡ formula rounded k d b
+unfolding weightOf
+weight-rounded k d b h = rw (is-false (unusable b) h) (kernel-formula k d b)
+
+-- any other: 1 for a distance of 0, else 0, whichever kernel
+pub weight-apart : (k : GwrKernel) (d b : Float) → T (unusable b) → weightOf k d b ≡ cond (eq d zero64) one64 zero64
+unfolding weightOf degenerateWeight
+weight-apart k d b h = rw (is-true (unusable b) h)
+
+-- ---- fractions: distance a/c at bandwidth p/q, of which d/b is (a·q)/(c·p)
+module _ (a c p q : ℕ) where
+  abbrev distance : Fraction
+  distance = fraction false a c
+
+  abbrev bandwidth : Fraction
+  bandwidth = fraction false p q
+
+  -- exp(-(d/b)²/2)
+  pub gaussian-exact : formula exact Gaussian distance bandwidth ≡ power (fraction true (a * q * (a * q)) (2 * (c * p * (c * p))))
+  unfolding gaussianFormula
+  gaussian-exact = rw (one-mul (a * q), mul-assoc 2 (c * p) (c * p))
+
+  -- (1 - (d/b)²)² for d < b
+  pub bisquare-exact : a * q < p * c → (let u = c * p * (c * p) - a * q * (a * q) in formula exact Bisquare distance bandwidth ≡ plain (fraction false (u * u) (c * p * (c * p) * (c * p * (c * p)))))
+  unfolding bisquareFormula
+  bisquare-exact h =
+      let l : a * q ≤ c * p = le-trans (le-of-lt h) (le-of-eq (mul-comm p c)) in
+      rw (lt-ltb (a * q) (p * c) h, one-mul (c * p * (c * p)), mul-one (a * q * (a * q)), le-leb (a * q * (a * q)) (c * p * (c * p)) (mul-le-mul l l))
+
+  -- 0 for d ≥ b
+  pub bisquare-outside : p * c ≤ a * q → formula exact Bisquare distance bandwidth ≡ plain (fraction false 0 1)
+  unfolding bisquareFormula
+  bisquare-outside h = rw (le-ltb (a * q) (p * c) h)
+
+  -- exp(-d/b)
+  pub exponential-exact : formula exact Exponential distance bandwidth ≡ power (fraction true (a * q) (c * p))
+  unfolding exponentialFormula
+  exponential-exact = refl

@@ -1,0 +1,55 @@
+-- 000's refusal of a weight sum, `weight_sum <= 0.0 || !weight_sum.is_finite()`, never occurs: where every coordinate is finite, the sum that `weightsAt` gives is finite and above 0, for every kernel, location and bandwidth. Assumes nothing.
+use mathlib.Core.Path.{_≡_, refl, sym, ap, _∙_, subst}
+use mathlib.Core.Bool.{false}
+use mathlib.Core.List.{List}
+use Prim.Native.Nat.{ℕ, zero, suc, _+_, _-_, _*_, _≤_, _<_}
+use native.Mathlib.Nat.{zero-add, sub-zero}
+use native.Mathlib.Omega.{arith}
+use lib.Dec.{T}
+use lib.ListN.{getD, replicate}
+use lib.Ieee.{Float, nan, binary64, add, lt, ofBits}
+use lib.Ieee.Scale.{finite}
+use Rattle.real.specs.Fold.{turns, range}
+use Rattle.real.specs.Reals.{zero64, one64}
+use Rattle.kernel.specs.declared.GwrKernel.{GwrKernel}
+use Rattle.kernel.specs.Weight.{weightOf, distanceOf, totalOf, FromZeroToOne}
+use Rattle.kernel.proofs.WeightRange.{weights-in, weight-zero, never-refused}
+use Rattle.kernel.proofs.DistanceRange.{distance-above, distance-own}
+use Rattle.normal.specs.Data.{Data}
+use Rattle.normal.specs.Weights.{weighStep, weightsBy, weightFrom, weightsAt}
+
+-- ---- the fold's second part is the sum in order
+sum-turns : (v : ℕ → Float) (n : ℕ) (w : List Float) → turns (weighStep v) 0 n (w, zero64) .1 ≡ totalOf v n
+unfolding turns weighStep totalOf
+sum-turns v zero w = refl
+sum-turns v (suc n) w = rw (sum-turns v n w, zero-add n)
+
+sum-by : (v : ℕ → Float) (n : ℕ) (w : List Float) → weightsBy v n w .1 ≡ totalOf v n
+unfolding weightsBy range
+sum-by v n w = rw sub-zero (sum-turns v n w)
+
+-- ---- the weights seen from a location
+module _ (d : Data) (k : GwrKernel) (i : ℕ) (b : Float) (places : (j : ℕ) → j < 2 * d .n → T (finite (getD (d .coords) j nan))) (inside : i < d .n) where
+  abbrev weight : ℕ → Float
+  weight = weightFrom (d .coords) (getD (d .coords) (2 * i) nan) (getD (d .coords) (2 * i + 1) nan) k b
+
+  each-in : (j : ℕ) → j < d .n → FromZeroToOne (weight j)
+  unfolding weightFrom
+  each-in j h =
+      weights-in k _ b
+      (distance-above (getD (d .coords) (2 * i) nan) (getD (d .coords) (2 * i + 1) nan) (getD (d .coords) (2 * j) nan) (getD (d .coords) (2 * j + 1) nan)
+      (places (2 * i) (omega arith)) (places (2 * i + 1) (omega arith)) (places (2 * j) (omega arith)) (places (2 * j + 1) (omega arith)))
+
+  own-weight : weight i ≡ one64
+  unfolding weightFrom
+  own-weight =
+      ap (λ (x : Float). weightOf k x b)
+      (distance-own (getD (d .coords) (2 * i) nan) (getD (d .coords) (2 * i + 1) nan) (places (2 * i) (omega arith)) (places (2 * i + 1) (omega arith)))
+      ∙ weight-zero k false b
+
+  -- the sum that `weightsAt` gives
+  pub weight-sum : d .n ≤ 512 → T (finite (weightsAt d k i b .1)) × T (lt zero64 (weightsAt d k i b .1))
+  unfolding weightsAt
+  weight-sum few =
+      subst (λ (x : Float). T (finite x) × T (lt zero64 x)) (sym (sum-by weight (d .n) (replicate 512 zero64)))
+      (never-refused weight (d .n) i few each-in inside own-weight)
