@@ -1,3 +1,4 @@
 pub mod Sweeps
 pub mod Searches
 pub mod Fits
+pub mod Literal

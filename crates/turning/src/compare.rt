@@ -1,0 +1,194 @@
+// Whether two values are the same, reals by their bits.
+use criterion::Criterion;
+use criterion::Summary;
+use golden::Bracket;
+use job::Answer;
+use job::Job;
+use job::Setup;
+use job::Stage;
+use kernel::GwrKernel;
+use neighbours::GwrBandwidth;
+
+pub fn same_real(a: f64, b: f64) -> bool {
+    wire::bits_of(a) == wire::bits_of(b)
+}
+
+// Whether two slices have the same length and the same numbers.
+pub fn same_reals(a: &[f64], b: &[f64]) -> bool {
+    let n = a.len();
+    if n == b.len() {
+        let mut same = true;
+        for i in 0..n {
+            same = both(same, same_real(a[i], b[i]));
+        }
+        return same;
+    }
+    false
+}
+
+pub fn both(a: bool, b: bool) -> bool {
+    if a { b } else { false }
+}
+
+// A criterion's refusal number, 0 for none, and its value.
+fn criterion_number(c: Criterion) -> u32 {
+    match c {
+        Criterion::Value(_) => 0,
+        Criterion::Refused(r) => r.number(),
+    }
+}
+
+fn criterion_value(c: Criterion) -> f64 {
+    match c {
+        Criterion::Value(v) => v,
+        Criterion::Refused(_) => 0.0,
+    }
+}
+
+// A stage as a number: its place, or 100 and the refusal where it has ended.
+fn stage_number(s: Stage) -> u32 {
+    match s {
+        Stage::First => 1,
+        Stage::Second => 2,
+        Stage::Round => 3,
+        Stage::Final => 4,
+        Stage::Ended(c) => 100 + criterion_number(c) % 100,
+    }
+}
+
+fn stage_value(s: Stage) -> f64 {
+    match s {
+        Stage::Ended(c) => criterion_value(c),
+        _ => 0.0,
+    }
+}
+
+fn kernel_number(k: GwrKernel) -> u32 {
+    match k {
+        GwrKernel::Gaussian => 0,
+        GwrKernel::Bisquare => 1,
+        GwrKernel::Exponential => 2,
+    }
+}
+
+// 0 for a distance, and one more than the count for a count.
+fn bandwidth_kind(b: GwrBandwidth) -> usize {
+    match b {
+        GwrBandwidth::Fixed(_) => 0,
+        GwrBandwidth::AdaptiveKnn(k) => counted(k),
+    }
+}
+
+fn counted(k: usize) -> usize {
+    if k < 1000000 { k + 1 } else { k }
+}
+
+fn bandwidth_value(b: GwrBandwidth) -> f64 {
+    match b {
+        GwrBandwidth::Fixed(d) => d,
+        GwrBandwidth::AdaptiveKnn(_) => 0.0,
+    }
+}
+
+pub fn same_bandwidth(a: GwrBandwidth, b: GwrBandwidth) -> bool {
+    both(
+        bandwidth_kind(a) == bandwidth_kind(b),
+        same_real(bandwidth_value(a), bandwidth_value(b)),
+    )
+}
+
+fn same_bracket(a: Bracket, b: Bracket) -> bool {
+    let ends = both(same_real(a.a, b.a), same_real(a.b, b.b));
+    let inner = both(same_real(a.c, b.c), same_real(a.d, b.d));
+    let scores = both(same_real(a.fc, b.fc), same_real(a.fd, b.fd));
+    let best = both(same_real(a.best, b.best), same_real(a.low, b.low));
+    both(
+        both(ends, inner),
+        both(both(scores, best), same_real(a.h, b.h)),
+    )
+}
+
+fn same_place(a: Job, b: Job) -> bool {
+    let counts = both(
+        a.location == b.location,
+        both(a.trials == b.trials, a.solves == b.solves),
+    );
+    both(
+        counts,
+        both(same_real(a.trace, b.trace), same_real(a.squares, b.squares)),
+    )
+}
+
+fn same_stage(a: Stage, b: Stage) -> bool {
+    both(
+        stage_number(a) == stage_number(b),
+        same_real(stage_value(a), stage_value(b)),
+    )
+}
+
+fn same_flag(a: bool, b: bool) -> bool {
+    if a { b } else { !b }
+}
+
+// Whether what does not change over a job is the same.
+fn same_setup(a: Setup, b: Setup) -> bool {
+    let options_a = a.options;
+    let options_b = b.options;
+    let kernel_a = options_a.kernel;
+    let kernel_b = options_b.kernel;
+    let bandwidth_a = options_a.bandwidth;
+    let bandwidth_b = options_b.bandwidth;
+    let sizes = both(a.n == b.n, a.p == b.p);
+    let flags = same_flag(options_a.optimize_bandwidth, options_b.optimize_bandwidth);
+    let kernels = kernel_number(kernel_a) == kernel_number(kernel_b);
+    both(
+        both(sizes, flags),
+        both(kernels, same_bandwidth(bandwidth_a, bandwidth_b)),
+    )
+}
+
+// Whether two records are the same.
+pub fn same_job(a: Job, b: Job) -> bool {
+    let setup_a = a.setup;
+    let setup_b = b.setup;
+    let stage_a = a.stage;
+    let stage_b = b.stage;
+    let stages = same_stage(stage_a, stage_b);
+    let setups = same_setup(setup_a, setup_b);
+    let bandwidth_a = a.bandwidth;
+    let bandwidth_b = b.bandwidth;
+    let bandwidths = same_bandwidth(bandwidth_a, bandwidth_b);
+    let bracket_a = a.bracket;
+    let bracket_b = b.bracket;
+    let brackets = same_bracket(bracket_a, bracket_b);
+    both(
+        both(stages, setups),
+        both(both(bandwidths, brackets), same_place(a, b)),
+    )
+}
+
+// Whether a job has ended.
+pub fn has_ended(j: Job) -> bool {
+    let stage = j.stage;
+    stage.is_ended()
+}
+
+pub fn same_summary(a: Summary, b: Summary) -> bool {
+    both(
+        both(
+            same_real(a.bandwidth, b.bandwidth),
+            same_real(a.aicc, b.aicc),
+        ),
+        a.solves == b.solves,
+    )
+}
+
+// An answer's number: 0 for ended, 99 for working, and else the refusal's.
+pub fn answer_number(a: Answer) -> u32 {
+    match a {
+        Answer::Working => 99,
+        Answer::Ended(_) => 0,
+        Answer::Failed(r, _) => r.number(),
+        Answer::Refused(r) => r.number(),
+    }
+}

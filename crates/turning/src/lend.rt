@@ -1,0 +1,158 @@
+// One turn of a list, some of which are lent what they must refuse.
+ghost use Prim.Native.Nat.{_<_, _≤_, _^_};
+use crate::compare;
+use crate::made;
+use job::Job;
+use job::Turned;
+
+// A turn, and the refusal that it must answer, 0 for none.
+pub struct Given {
+    pub turned: Turned,
+    pub want: u32,
+}
+
+// The allowance of a turn: zero, one, a few, many, or all that there are.
+fn allowance_of(seed: u64, k: u32) -> u32
+    requires { ⌜ seed < 2 ^ 31 ⌝ }
+{
+    if 36 < k {
+        return 4294967295;
+    }
+    let few = made::draw(made::next_seed(seed), 12) as u32;
+    match made::draw(seed, 6) {
+        0 => 0,
+        1 => 1,
+        2 => 1,
+        3 => few + 2,
+        4 => 40,
+        _ => all_or(few),
+    }
+}
+
+fn all_or(few: u32) -> u32 {
+    if few == 0 { 4294967295 } else { few }
+}
+
+// The refusal of a turn on a job that may have ended.
+fn wanted(j: Job, number: u32) -> u32 {
+    if compare::has_ended(j) { 20 } else { number }
+}
+
+// One of two numbers.
+fn pick(first: bool, a: f64, b: f64) -> f64 {
+    if first { a } else { b }
+}
+
+// Copies the numbers of a slice to the start of another, the last one replaced where it is to be spoiled.
+fn lent(from: &[f64], to: &mut [f64], spoil: bool, last: f64) {
+    let n = end_of(true, from.len(), to.len());
+    for i in 0..n {
+        let at_last = compare::both(spoil, i + 1 == n);
+        to[i] = pick(at_last, last, from[i]);
+    }
+}
+
+// The end of a part: n where it is whole and there is so much, 0 where it is not.
+fn end_of(whole: bool, n: usize, most: usize) -> usize
+    ensures { λ r. ⌜ (r ≤ n) × (r ≤ most) ⌝ }
+{
+    if whole {
+        if n < most { n } else { most }
+    } else {
+        0
+    }
+}
+
+// Which turn this is: the last one of a list is a plain one.
+fn kind_of(seed: u64, k: u32) -> u64
+    requires { ⌜ seed < 2 ^ 31 ⌝ }
+{
+    if 38 < k {
+        return 24;
+    }
+    made::draw(made::next_seed(seed), 24)
+}
+
+// How many predictors are lent: kind 6 has one too few or, where there is none, some too many.
+fn lent_predictors(kind: u64, x: usize, n: usize) -> usize {
+    if kind == 6 {
+        if 0 < x { x - 1 } else { n }
+    } else {
+        x
+    }
+}
+
+// Whether the output is lent: not in kind 2, nor in kind 5 where there is no predictor to spoil.
+fn lends_output(kind: u64, x: usize) -> bool {
+    match kind {
+        2 => false,
+        5 => 0 < x,
+        _ => true,
+    }
+}
+
+// A turn of this kind.
+fn turn_of(
+    kind: u64,
+    j: Job,
+    coords: &[f64],
+    x: &[f64],
+    y: &[f64],
+    out: &mut [f64],
+    allowance: u32,
+) -> Turned {
+    let mut places = [0.0; 24];
+    let mut predictors = [0.0; 36];
+    let mut responses = [0.0; 12];
+    lent(coords, &mut places, kind == 4, real::infinity());
+    lent(x, &mut predictors, kind == 5, 0.0 / 0.0);
+    lent(y, &mut responses, kind == 3, 0.0 / 0.0);
+    let a = end_of(kind != 1, coords.len(), 24);
+    let b = end_of(true, lent_predictors(kind, x.len(), y.len()), 36);
+    let c = end_of(kind != 0, y.len(), 12);
+    let d = end_of(lends_output(kind, x.len()), out.len(), out.len());
+    job::turn(
+        j,
+        &places[..a],
+        &predictors[..b],
+        &responses[..c],
+        &mut out[..d],
+        allowance,
+    )
+}
+
+// The refusal of a turn of this kind on a job that has not ended, 0 for none.
+fn refusal_of(kind: u64, x: &[f64]) -> u32 {
+    match kind {
+        0 => 21,
+        1 => 21,
+        2 => 13,
+        3 => 8,
+        4 => 9,
+        5 => predictor_refusal(x.len()),
+        6 => 21,
+        _ => 0,
+    }
+}
+
+fn predictor_refusal(numbers: usize) -> u32 {
+    if 0 < numbers { 10 } else { 13 }
+}
+
+// Turn k of a list.
+pub fn give_turn(
+    j: Job,
+    coords: &[f64],
+    x: &[f64],
+    y: &[f64],
+    out: &mut [f64],
+    seed: u64,
+    k: u32,
+) -> Given
+    requires { ⌜ seed < 2 ^ 31 ⌝ }
+{
+    let kind = kind_of(seed, k);
+    let want = wanted(j, refusal_of(kind, x));
+    let turned = turn_of(kind, j, coords, x, y, out, allowance_of(seed, k));
+    Given { turned, want }
+}

@@ -1,0 +1,209 @@
+// A job fitted uninterrupted and under lists of turns.
+ghost use mathlib.Core.Path.{_≡_};
+ghost use Prim.Native.Nat.{_<_, _≤_, _^_};
+ghost use lib.ListN.{length};
+use crate::compare;
+use crate::lend;
+use crate::lend::Given;
+use crate::made;
+use crate::made::Case;
+use crate::tally::Tally;
+use criterion::Summary;
+use gwr::Fit;
+use gwr::FitAnswer;
+use job::Answer;
+use job::Beginning;
+use job::Job;
+use plan::GwrOptions;
+
+// After a turn: whether its output is that of the record that follows, and that of the uninterrupted fit, and the steps so far.
+struct Seen {
+    beside: bool,
+    rows: bool,
+    steps: u32,
+}
+
+// The uninterrupted fit of a case, and four lists of turns that are to end as it does.
+pub fn play_case(c: Case, t: Tally) -> Tally
+    requires { ⌜ (c .n ≤ 10) × (c .p ≤ 2) × (c .seed < 2 ^ 31) ⌝ }
+    requires { ⌜ (length (c .coords) ≡ 24) × (length (c .x) ≡ 36) × (length (c .y) ≡ 12) ⌝ }
+{
+    let n = c.n;
+    let p = c.p;
+    let coords = c.coords;
+    let x = c.x;
+    let y = c.y;
+    let options = c.options;
+    play_data(
+        &coords[..2 * n],
+        &x[..n * p],
+        &y[..n],
+        p,
+        options,
+        c.seed,
+        t,
+    )
+}
+
+// The output has 100 numbers: those past the rows are watched too.
+fn play_data(
+    coords: &[f64],
+    x: &[f64],
+    y: &[f64],
+    p: usize,
+    options: GwrOptions,
+    seed: u64,
+    t: Tally,
+) -> Tally
+    requires { ⌜ seed < 2 ^ 31 ⌝ }
+{
+    let mut rows = [0.5; 100];
+    let fit = gwr::gwr_fit(coords, x, y, p, options, &mut rows);
+    let begun = job::begin(coords, x, y, p, options, &rows);
+    let started = begun.answer;
+    match started {
+        Beginning::Refused(r) => {
+            let number = r.number();
+            t.fitted(number).expect(rejected_by(fit, number))
+        }
+        Beginning::Ready => {
+            let j = begun.job;
+            play_lists(j, coords, x, y, fit, &rows, seed, t.fitted(fit_number(fit)))
+        }
+    }
+}
+
+// The number of a fit's refusal, 0 for none.
+fn fit_number(fit: Fit) -> u32 {
+    let answer = fit.answer;
+    match answer {
+        FitAnswer::Fitted(_) => 0,
+        FitAnswer::Failed(r, _) => r.number(),
+        FitAnswer::Rejected(r) => r.number(),
+    }
+}
+
+fn rejected_by(fit: Fit, number: u32) -> bool {
+    let answer = fit.answer;
+    match answer {
+        FitAnswer::Rejected(r) => r.number() == number,
+        _ => false,
+    }
+}
+
+fn play_lists(
+    j: Job,
+    coords: &[f64],
+    x: &[f64],
+    y: &[f64],
+    fit: Fit,
+    rows: &[f64],
+    seed: u64,
+    t: Tally,
+) -> Tally
+    requires { ⌜ seed < 2 ^ 31 ⌝ }
+{
+    let mut at = seed;
+    let mut sum = t;
+    for k in 0..4u32 {
+        at = made::next_seed(at);
+        sum = play_list(j, coords, x, y, fit, rows, at, sum);
+    }
+    sum
+}
+
+// A list of turns. A second record follows it by steps of one, and a turn is given after the end.
+fn play_list(
+    j: Job,
+    coords: &[f64],
+    x: &[f64],
+    y: &[f64],
+    fit: Fit,
+    rows: &[f64],
+    seed: u64,
+    t: Tally,
+) -> Tally
+    requires { ⌜ seed < 2 ^ 31 ⌝ }
+{
+    let mut at = seed;
+    let mut sum = t.listed();
+    let mut played = j;
+    let mut followed = j;
+    let mut out = [0.5; 100];
+    let mut beside = [0.5; 100];
+    let mut steps = 0u32;
+    for k in 0..40u32 {
+        at = made::next_seed(at);
+        let given = lend::give_turn(played, coords, x, y, &mut out, at, k);
+        let turned = given.turned;
+        steps = std::num::wrapping_add_u32(steps, turned.steps);
+        followed = follow(followed, coords, x, y, &mut beside, turned.steps);
+        let seen = Seen {
+            beside: compare::same_reals(&out, &beside),
+            rows: compare::same_reals(&out, rows),
+            steps,
+        };
+        sum = account(given, followed, fit, sum, seen);
+        played = turned.job;
+    }
+    let last = job::turn(played, coords, x, y, &mut out, 4294967295);
+    sum.stood(last, played, 20, compare::same_reals(&out, &beside))
+}
+
+// The record after so many turns of one step.
+fn follow(j: Job, coords: &[f64], x: &[f64], y: &[f64], out: &mut [f64], steps: u32) -> Job {
+    let mut at = j;
+    for k in 0..steps {
+        let turned = job::turn(at, coords, x, y, &mut *out, 1);
+        at = turned.job;
+    }
+    at
+}
+
+// What a turn answered, held to the record that followed it, to its expected refusal and, where it ended, to the uninterrupted fit.
+fn account(given: Given, followed: Job, fit: Fit, t: Tally, seen: Seen) -> Tally {
+    let turned = given.turned;
+    let answer = turned.answer;
+    let after = turned.job;
+    let number = compare::answer_number(answer);
+    let same = compare::both(seen.beside, compare::same_job(after, followed));
+    let right = answered_so(answer, given.want, turned.steps, fit, seen);
+    t.answered(number).expect(same).expect(right)
+}
+
+// Whether an answer is the one that is wanted.
+fn answered_so(answer: Answer, want: u32, steps: u32, fit: Fit, seen: Seen) -> bool {
+    match answer {
+        Answer::Working => want == 0,
+        Answer::Refused(r) => compare::both(r.number() == want, steps == 0),
+        Answer::Ended(s) => compare::both(
+            want == 0,
+            compare::both(ended_so(seen, s), fitted_so(fit, s)),
+        ),
+        Answer::Failed(r, s) => compare::both(
+            want == 0,
+            compare::both(ended_so(seen, s), failed_so(fit, r.number(), s)),
+        ),
+    }
+}
+
+// Whether a list ended with the fit's rows, and its turns made as many steps as the summary has solves.
+fn ended_so(seen: Seen, s: Summary) -> bool {
+    compare::both(seen.rows, s.solves == seen.steps as u64)
+}
+
+fn fitted_so(fit: Fit, s: Summary) -> bool {
+    let answer = fit.answer;
+    match answer {
+        FitAnswer::Fitted(v) => compare::same_summary(v, s),
+        _ => false,
+    }
+}
+
+fn failed_so(fit: Fit, number: u32, s: Summary) -> bool {
+    let answer = fit.answer;
+    match answer {
+        FitAnswer::Failed(r, v) => compare::both(r.number() == number, compare::same_summary(v, s)),
+        _ => false,
+    }
+}
