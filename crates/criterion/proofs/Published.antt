@@ -1,23 +1,25 @@
--- `correctedAic` is the published AICc with each operation rounded once, in 000's order, off three spots, and what it is at each of them. Assumes nothing.
+-- `correctedAic` is the published AICc with each operation rounded once, in 000's order, off three spots, and what it is at each of them. The exact formula on fractions, and that an operation of binary64 is that of fractions, rounded once. Assumes nothing.
 use mathlib.Core.Path.{_≡_, refl, ap, sym, subst, _∙_}
 use mathlib.Core.Logic.{_⊎_, inl, inr}
-use mathlib.Core.Bool.{Bool, true, false, not, _&&_, _||_}
-use Prim.Native.Nat.{ℕ}
-use lib.Dec.{T}
+use mathlib.Core.Bool.{Bool, true, false, not, cond, Bool·beq, _&&_, _||_}
+use Prim.Native.Nat.{ℕ, _+_, _-_, _*_, _<_}
+use native.Mathlib.Nat.{mul-assoc, mul-left-comm}
+use lib.Dec.{T, ltb}
 use lib.IntN.{negsuc}
-use lib.Ieee.{Float, nan, inf, fin, binary64, lt, le, eq, fits, isNan, ofBits, mul, div}
+use lib.Ieee.{Float, nan, inf, fin, binary64, up, down, unlike, round, sum, add, sub, neg, lt, le, eq, fits, isNan, ofBits, mul, div}
 use lib.Ieee.Fits.{div-fits, mul-fits}
 use lib.Ieee.Bits.{is-true, is-false}
 use lib.Ieee.Scale.{finite}
+use lib.Ieee.Positive.{num}
 use Rattle.real.specs.Reals.{zero64}
-use Rattle.real.proofs.SignedOrder.{le-tr, nlt→le}
+use Rattle.real.proofs.SignedOrder.{le-tr, nlt→le, div-opened}
 use Rattle.root.specs.Root.{root, inf64}
 use Rattle.root.proofs.Nearest.{NearestRoot, root-nearest, root-of-negative}
 use Rattle.elementary.proofs.LnRange.{LnFinite, ln-finite}
 use Rattle.refusal.specs.declared.Refusal.the-variants.{DeviationNotFinite}
 use Rattle.criterion.specs.declared.Criterion.the-variants.{Value, Refused}
 use Rattle.criterion.specs.Aicc.{two64, pi64, realOf, leastNormal, deviation, floored, freedom, exhausted, terms, criterionOf, correctedAic}
-use Rattle.criterion.specs.Published.{Arithmetic, sigmaOf, published, formula, rounded}
+use Rattle.criterion.specs.Published.{Arithmetic, sigmaOf, published, formula, rounded, Fraction, fraction, joined, total, difference, product, quotient, exact, fractionOf, nearest64}
 
 -- ---- a finite root: of a zero, which is its own root, or of a positive number
 below-infinity : (x : Float) → T (finite x) → lt x (inf false) ≡ true
@@ -80,6 +82,66 @@ no-normal t = t
 pub published-order : {R : Type 0} (A : Arithmetic R) → ((x y z : R) → A .times x (A .over y z) ≡ A .over (A .times x y) z) → (n sigma trace : R) → published A n sigma trace ≡ formula A n sigma trace
 unfolding published formula
 published-order A law n sigma trace = ap (A .plus (A .plus (A .times (A .times (A .two) n) (A .ln sigma)) (A .times n (A .ln (A .times (A .two) (A .pi)))))) (law n (A .plus n trace) (A .minus (A .minus n (A .two)) trace))
+
+-- so it is with exact fractions, whatever stands for π, the root and ln
+unlike-assoc : (s t u : Bool) → unlike s (unlike t u) ≡ unlike (unlike s t) u
+unlike-assoc true true true = refl
+unlike-assoc true true false = refl
+unlike-assoc true false true = refl
+unlike-assoc true false false = refl
+unlike-assoc false true true = refl
+unlike-assoc false true false = refl
+unlike-assoc false false true = refl
+unlike-assoc false false false = refl
+
+change-places : (x y z : Fraction) → product x (quotient y z) ≡ quotient (product x y) z
+change-places (fraction s a c) (fraction t b d) (fraction u e f) = rw (unlike-assoc s t u, ← mul-assoc a b f, mul-left-comm c e d)
+
+pub published-exact : (pi : Fraction) (root ln : Fraction → Fraction) (n sigma trace : Fraction) → published (exact pi root ln) n sigma trace ≡ formula (exact pi root ln) n sigma trace
+published-exact pi root ln n sigma trace = published-order (exact pi root ln) change-places n sigma trace
+
+-- ---- an operation of `rounded` is that of `exact`, rounded once to the nearest; the root's rounding is `root-nearest`
+nearest-cond : (b : Bool) (x y : Fraction) → nearest64 (cond b x y) ≡ cond b (nearest64 x) (nearest64 y)
+nearest-cond true x y = refl
+nearest-cond false x y = refl
+
+sum-once : (s t : Bool) (a b c : ℕ) → sum binary64 s a t b c ≡ nearest64 (joined s a t b c)
+unfolding sum
+sum-once s t a b c =
+    sym (nearest-cond (Bool·beq s t) (fraction s (a + b) c) (cond (ltb a b) (fraction t (b - a) c) (fraction (s && ltb b a) (a - b) c))
+    ∙ ap (cond (Bool·beq s t) (round binary64 s (a + b) c)) (nearest-cond (ltb a b) (fraction t (b - a) c) (fraction (s && ltb b a) (a - b) c)))
+
+pub plus-once : (x y : Float) → T (finite x) → T (finite y) → rounded .plus x y ≡ nearest64 (total (fractionOf x) (fractionOf y))
+unfolding add
+plus-once nan y p q = absurd p
+plus-once (inf s) y p q = absurd p
+plus-once (fin s m e) nan p q = absurd q
+plus-once (fin s m e) (inf t) p q = absurd q
+plus-once (fin s m e) (fin t n d) p q = sum-once s t (m * up e * down d) (n * up d * down e) (down e * down d)
+
+pub minus-once : (x y : Float) → T (finite x) → T (finite y) → rounded .minus x y ≡ nearest64 (difference (fractionOf x) (fractionOf y))
+unfolding sub add neg
+minus-once nan y p q = absurd p
+minus-once (inf s) y p q = absurd p
+minus-once (fin s m e) nan p q = absurd q
+minus-once (fin s m e) (inf t) p q = absurd q
+minus-once (fin s m e) (fin t n d) p q = sum-once s (not t) (m * up e * down d) (n * up d * down e) (down e * down d)
+
+pub times-once : (x y : Float) → T (finite x) → T (finite y) → rounded .times x y ≡ nearest64 (product (fractionOf x) (fractionOf y))
+unfolding mul
+times-once nan y p q = absurd p
+times-once (inf s) y p q = absurd p
+times-once (fin s m e) nan p q = absurd q
+times-once (fin s m e) (inf t) p q = absurd q
+times-once (fin s m e) (fin t n d) p q = refl
+
+-- by a number other than 0
+pub over-once : (x y : Float) → T (finite x) → T (finite y) → 0 < num y → rounded .over x y ≡ nearest64 (quotient (fractionOf x) (fractionOf y))
+over-once nan y p q h = absurd p
+over-once (inf s) y p q h = absurd p
+over-once (fin s m e) nan p q h = absurd q
+over-once (fin s m e) (inf t) p q h = absurd q
+over-once (fin s m e) (fin t n d) p q h = div-opened binary64 (fin s m e) (fin t n d) p q h
 
 -- ln 2π, worked out from finite steps
 in-normal : T (le leastNormal (mul binary64 two64 pi64)) × T (lt (mul binary64 two64 pi64) (inf false))
