@@ -1,21 +1,156 @@
--- `correctedAic` is the published AICc with each operation rounded once, in 000's order, off three spots, and what it is at each of them. Assumes nothing.
-use mathlib.Core.Path.{_≡_, refl, ap}
-use mathlib.Core.Bool.{false, not}
-use Prim.Native.Nat.{ℕ}
-use lib.Dec.{T}
-use lib.Ieee.{Float, inf, le}
+-- `correctedAic` is the published AICc with each operation rounded once, in 000's order, off three spots, and what it is at each of them. The exact formula on fractions, and that an operation of binary64 is that of fractions, rounded once. Assumes nothing.
+use mathlib.Core.Path.{_≡_, refl, ap, sym, subst, _∙_}
+use mathlib.Core.Logic.{_⊎_, inl, inr}
+use mathlib.Core.Bool.{Bool, true, false, not, cond, Bool·beq, _&&_, _||_}
+use Prim.Native.Nat.{ℕ, _+_, _-_, _*_, _<_}
+use native.Mathlib.Nat.{mul-assoc, mul-left-comm}
+use lib.Dec.{T, ltb}
+use lib.IntN.{negsuc}
+use lib.Ieee.{Float, nan, inf, fin, binary64, up, down, unlike, round, sum, add, sub, neg, lt, le, eq, fits, isNan, ofBits, mul, div}
+use lib.Ieee.Fits.{div-fits, mul-fits}
 use lib.Ieee.Bits.{is-true, is-false}
 use lib.Ieee.Scale.{finite}
+use lib.Ieee.Positive.{num}
 use Rattle.real.specs.Reals.{zero64}
+use Rattle.real.proofs.SignedOrder.{le-tr, nlt→le, div-opened}
+use Rattle.root.specs.Root.{root, inf64}
+use Rattle.root.proofs.Nearest.{NearestRoot, root-nearest, root-of-negative}
+use Rattle.elementary.proofs.LnRange.{LnFinite, ln-finite}
 use Rattle.refusal.specs.declared.Refusal.the-variants.{DeviationNotFinite}
 use Rattle.criterion.specs.declared.Criterion.the-variants.{Value, Refused}
-use Rattle.criterion.specs.Aicc.{realOf, leastNormal, deviation, floored, freedom, exhausted, terms, criterionOf, correctedAic}
-use Rattle.criterion.specs.Published.{Arithmetic, sigmaOf, published, formula, rounded}
+use Rattle.criterion.specs.Aicc.{two64, pi64, realOf, leastNormal, deviation, floored, freedom, exhausted, terms, criterionOf, correctedAic}
+use Rattle.criterion.specs.Published.{Arithmetic, sigmaOf, published, formula, rounded, Fraction, fraction, joined, total, difference, product, quotient, exact, fractionOf, nearest64}
+
+-- ---- a finite root: of a zero, which is its own root, or of a positive number
+below-infinity : (x : Float) → T (finite x) → lt x (inf false) ≡ true
+unfolding lt
+below-infinity nan p = absurd p
+below-infinity (inf s) p = absurd p
+below-infinity (fin s m e) p = refl
+
+number : (x : Float) → T (finite x) → T (not (isNan x))
+unfolding isNan
+number nan p = absurd p
+number (inf s) p = absurd p
+number (fin s m e) p = tt
+
+zero-of-le : (x : Float) → T (le x zero64) → lt x zero64 ≡ false → T (eq x zero64)
+unfolding le
+zero-of-le x h e = subst (λ (b : Bool). T (b || eq x zero64)) e h
+
+le-of-zero : (x : Float) → T (eq x zero64) → T (le x zero64)
+unfolding le
+le-of-zero x h = go (lt x zero64)
+  where
+    go : (b : Bool) → T (b || eq x zero64)
+    go true = tt
+    go false = h
+
+zero-number : T (not (isNan zero64)) × T (finite zero64)
+unfolding ofBits isNan
+zero-number = (tt, tt)
+
+abbrev Cases : Float → Float → Type 0
+Cases x r = (T (eq x zero64) × (r ≡ x)) ⊎ NearestRoot x r
+
+root-own : (x : Float) (b c : Bool) → lt x zero64 ≡ false → lt zero64 x ≡ b → lt x inf64 ≡ c → (b && c) ≡ false → root x ≡ x
+unfolding root
+root-own x b c p q r e = rw (p, q, r, e)
+
+root-cases : (x : Float) → T (fits binary64 x) → T (finite (root x)) → Cases x (root x)
+root-cases x F f = go (lt x zero64) (lt zero64 x) (lt x inf64) refl refl refl
+  where
+    go : (a b c : Bool) → lt x zero64 ≡ a → lt zero64 x ≡ b → lt x inf64 ≡ c → Cases x (root x)
+    go true b c p q r = absurd (subst (λ (z : Float). T (finite z)) (root-of-negative x (subst T (sym p) tt)) f)
+    go false true true p q r = inr (root-nearest x F (subst T (sym q) tt) (subst T (sym r) tt))
+    go false true false p q r =
+        let own = root-own x true false p q r refl in
+        let fx = subst (λ (z : Float). T (finite z)) own f in
+        absurd (subst T (sym (below-infinity x fx) ∙ r) tt)
+    go false false c p q r =
+        let own = root-own x false c p q r refl in
+        let fx = subst (λ (z : Float). T (finite z)) own f in
+        inl (zero-of-le x (nlt→le zero64 x (zero-number .0) (number x fx) (subst (λ (b : Bool). T (not b)) (sym q) tt)) p, own)
+
+no-normal : T (le (fin false 1 (negsuc 1021)) zero64) → ⊥
+unfolding le ofBits
+no-normal t = t
+
+-- ---- the order of the last term
 
 -- where a product and a quotient may change places, as in the real numbers, 000's order is the published one
 pub published-order : {R : Type 0} (A : Arithmetic R) → ((x y z : R) → A .times x (A .over y z) ≡ A .over (A .times x y) z) → (n sigma trace : R) → published A n sigma trace ≡ formula A n sigma trace
 unfolding published formula
 published-order A law n sigma trace = ap (A .plus (A .plus (A .times (A .times (A .two) n) (A .ln sigma)) (A .times n (A .ln (A .times (A .two) (A .pi)))))) (law n (A .plus n trace) (A .minus (A .minus n (A .two)) trace))
+
+-- so it is with exact fractions, whatever stands for π, the root and ln
+unlike-assoc : (s t u : Bool) → unlike s (unlike t u) ≡ unlike (unlike s t) u
+unlike-assoc true true true = refl
+unlike-assoc true true false = refl
+unlike-assoc true false true = refl
+unlike-assoc true false false = refl
+unlike-assoc false true true = refl
+unlike-assoc false true false = refl
+unlike-assoc false false true = refl
+unlike-assoc false false false = refl
+
+change-places : (x y z : Fraction) → product x (quotient y z) ≡ quotient (product x y) z
+change-places (fraction s a c) (fraction t b d) (fraction u e f) = rw (unlike-assoc s t u, ← mul-assoc a b f, mul-left-comm c e d)
+
+pub published-exact : (pi : Fraction) (root ln : Fraction → Fraction) (n sigma trace : Fraction) → published (exact pi root ln) n sigma trace ≡ formula (exact pi root ln) n sigma trace
+published-exact pi root ln n sigma trace = published-order (exact pi root ln) change-places n sigma trace
+
+-- ---- an operation of `rounded` is that of `exact`, rounded once to the nearest; the root's rounding is `root-nearest`
+nearest-cond : (b : Bool) (x y : Fraction) → nearest64 (cond b x y) ≡ cond b (nearest64 x) (nearest64 y)
+nearest-cond true x y = refl
+nearest-cond false x y = refl
+
+sum-once : (s t : Bool) (a b c : ℕ) → sum binary64 s a t b c ≡ nearest64 (joined s a t b c)
+unfolding sum
+sum-once s t a b c =
+    sym (nearest-cond (Bool·beq s t) (fraction s (a + b) c) (cond (ltb a b) (fraction t (b - a) c) (fraction (s && ltb b a) (a - b) c))
+    ∙ ap (cond (Bool·beq s t) (round binary64 s (a + b) c)) (nearest-cond (ltb a b) (fraction t (b - a) c) (fraction (s && ltb b a) (a - b) c)))
+
+pub plus-once : (x y : Float) → T (finite x) → T (finite y) → rounded .plus x y ≡ nearest64 (total (fractionOf x) (fractionOf y))
+unfolding add
+plus-once nan y p q = absurd p
+plus-once (inf s) y p q = absurd p
+plus-once (fin s m e) nan p q = absurd q
+plus-once (fin s m e) (inf t) p q = absurd q
+plus-once (fin s m e) (fin t n d) p q = sum-once s t (m * up e * down d) (n * up d * down e) (down e * down d)
+
+pub minus-once : (x y : Float) → T (finite x) → T (finite y) → rounded .minus x y ≡ nearest64 (difference (fractionOf x) (fractionOf y))
+unfolding sub add neg
+minus-once nan y p q = absurd p
+minus-once (inf s) y p q = absurd p
+minus-once (fin s m e) nan p q = absurd q
+minus-once (fin s m e) (inf t) p q = absurd q
+minus-once (fin s m e) (fin t n d) p q = sum-once s (not t) (m * up e * down d) (n * up d * down e) (down e * down d)
+
+pub times-once : (x y : Float) → T (finite x) → T (finite y) → rounded .times x y ≡ nearest64 (product (fractionOf x) (fractionOf y))
+unfolding mul
+times-once nan y p q = absurd p
+times-once (inf s) y p q = absurd p
+times-once (fin s m e) nan p q = absurd q
+times-once (fin s m e) (inf t) p q = absurd q
+times-once (fin s m e) (fin t n d) p q = refl
+
+-- by a number other than 0
+pub over-once : (x y : Float) → T (finite x) → T (finite y) → 0 < num y → rounded .over x y ≡ nearest64 (quotient (fractionOf x) (fractionOf y))
+over-once nan y p q h = absurd p
+over-once (inf s) y p q h = absurd p
+over-once (fin s m e) nan p q h = absurd q
+over-once (fin s m e) (inf t) p q h = absurd q
+over-once (fin s m e) (fin t n d) p q h = div-opened binary64 (fin s m e) (fin t n d) p q h
+
+-- ln 2π, worked out from finite steps
+in-normal : T (le leastNormal (mul binary64 two64 pi64)) × T (lt (mul binary64 two64 pi64) (inf false))
+unfolding mul le lt ofBits
+in-normal = (tt, tt)
+
+pub ln-two-pi : LnFinite (mul binary64 two64 pi64)
+unfolding ofBits
+ln-two-pi = ln-finite (mul binary64 two64 pi64) (mul-fits binary64 two64 pi64) (in-normal .0) (in-normal .1)
 
 module _ (n : ℕ) (rss trace : Float) where
   -- σ̂, rounded
@@ -25,6 +160,27 @@ module _ (n : ℕ) (rss trace : Float) where
   sigma-is : deviation (realOf n) rss ≡ sigma
   unfolding deviation sigmaOf
   sigma-is = refl
+
+  mean-cases : T (finite sigma) → Cases (div binary64 rss (realOf n)) sigma
+  unfolding sigmaOf
+  mean-cases f = root-cases (div binary64 rss (realOf n)) (div-fits binary64 rss (realOf n)) f
+
+  -- σ̂ at most 0 is that of a mean square of 0
+  pub sigma-zero : T (finite sigma) → T (le sigma zero64) → T (eq (div binary64 rss (realOf n)) zero64)
+  sigma-zero f h =
+      elim (mean-cases f) [
+        | inl z ↦ z .0
+        | inr r ↦ absurd (no-normal (le-tr _ sigma zero64 (r .is-normal) h))
+      ]
+
+  -- any other is a positive normal number, so ln has its steps for it, and each of them is finite
+  pub sigma-normal : T (finite sigma) → T (not (le sigma zero64)) → T (le leastNormal sigma) × LnFinite sigma
+  unfolding ofBits
+  sigma-normal f p =
+      elim (mean-cases f) [
+        | inl z ↦ absurd (subst (λ (b : Bool). T (not b)) (is-true (le sigma zero64) (subst (λ (x : Float). T (le x zero64)) (sym (z .1)) (le-of-zero (div binary64 rss (realOf n)) (z .0)))) p)
+        | inr r ↦ (r .is-normal, ln-finite sigma (r .held) (r .is-normal) (subst T (sym (below-infinity sigma f)) tt))
+      ]
 
   terms-are : (s : Float) → terms (realOf n) s trace (freedom (realOf n) trace) ≡ formula rounded (realOf n) s trace
   unfolding terms freedom formula

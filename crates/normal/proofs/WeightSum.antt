@@ -1,13 +1,14 @@
 -- 000's refusal of a weight sum, `weight_sum <= 0.0 || !weight_sum.is_finite()`, never occurs: where every coordinate is finite, the sum that `weightsAt` gives is finite and above 0, for every kernel, location and bandwidth. Assumes nothing.
 use mathlib.Core.Path.{_≡_, refl, sym, ap, _∙_, subst}
-use mathlib.Core.Bool.{false}
-use mathlib.Core.List.{List}
+use mathlib.Core.Bool.{Bool, true, false, _&&_}
+use mathlib.Core.List.{List, [], _∷_}
 use Prim.Native.Nat.{ℕ, zero, suc, _+_, _-_, _*_, _≤_, _<_}
-use native.Mathlib.Nat.{zero-add, sub-zero}
+use native.Mathlib.Nat.{zero-add, sub-zero, lt-of-lt-of-le, le-of-eq, le-of-suc-le-suc, not-suc-le-zero}
 use native.Mathlib.Omega.{arith}
 use lib.Dec.{T}
-use lib.ListN.{getD, replicate}
+use lib.ListN.{length, getD, replicate}
 use lib.Ieee.{Float, nan, binary64, add, lt, ofBits}
+use lib.Ieee.Fits.{and-l, and-r}
 use lib.Ieee.Scale.{finite}
 use Rattle.real.specs.Fold.{turns, range}
 use Rattle.real.specs.Reals.{zero64, one64}
@@ -53,3 +54,18 @@ module _ (d : Data) (k : GwrKernel) (i : ℕ) (b : Float) (places : (j : ℕ) �
   weight-sum few =
       subst (λ (x : Float). T (finite x) × T (lt zero64 x)) (sym (sum-by weight (d .n) (replicate 512 zero64)))
       (never-refused weight (d .n) i few each-in inside own-weight)
+
+-- ---- the same for coordinates given as a list: n pairs, all finite
+abbrev pub everyFinite : List Float → Bool
+everyFinite [] = true
+everyFinite (v ∷ vs) = finite v && everyFinite vs
+
+at-finite : (l : List Float) (j : ℕ) → T (everyFinite l) → j < length l → T (finite (getD l j nan))
+at-finite [] j h k = absurd (not-suc-le-zero k)
+at-finite (v ∷ vs) zero h k = and-l (finite v) (everyFinite vs) h
+at-finite (v ∷ vs) (suc j) h k = at-finite vs j (and-r (finite v) (everyFinite vs) h) (le-of-suc-le-suc k)
+
+pub weight-sum-of :
+    (d : Data) (k : GwrKernel) (i : ℕ) (b : Float) → T (everyFinite (d .coords)) → length (d .coords) ≡ 2 * d .n → i < d .n → d .n ≤ 512
+    → T (finite (weightsAt d k i b .1)) × T (lt zero64 (weightsAt d k i b .1))
+weight-sum-of d k i b h e inside few = weight-sum d k i b (λ j l. at-finite (d .coords) j h (lt-of-lt-of-le l (le-of-eq (sym e)))) inside few

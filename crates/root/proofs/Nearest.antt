@@ -2,16 +2,17 @@
 use mathlib.Core.Path.{_≡_, refl, sym, ap, _∙_, subst}
 use mathlib.Core.Bool.{Bool, true, false, _&&_}
 use Prim.Native.Nat.{ℕ, zero, suc, _+_, _-_, _*_, _/_, _%_, _^_, _≤_, _<_, zero-le}
-use native.Mathlib.Nat.{mul-assoc, mul-comm, mul-left-comm, mul-one, zero-mul, add-mul, mul-right-comm, mul-mul-mul-comm, mul-pos, mul-le-mul, mul-le-mul-right, mul-le-mul-left, mul-lt-mul-of-pos-left, mul-lt-mul-of-pos-right, lt-of-mul-lt-mul-right, lt-of-lt-of-le, lt-of-le-of-lt, lt-of-not-le, not-le-of-lt, le-trans, le-of-eq, le-of-lt, mul-add, mul-div-cancel, not-suc-le-zero}
+use native.Mathlib.Nat.{mul-assoc, mul-comm, mul-left-comm, mul-one, one-mul, zero-mul, add-mul, mul-right-comm, mul-mul-mul-comm, mul-pos, mul-le-mul, mul-le-mul-right, mul-le-mul-left, mul-lt-mul-of-pos-left, mul-lt-mul-of-pos-right, lt-of-mul-lt-mul-right, lt-of-lt-of-le, lt-of-le-of-lt, lt-of-not-le, not-le-of-lt, le-trans, le-of-eq, le-of-lt, mul-add, mul-div-cancel, not-suc-le-zero}
 use native.Mathlib.Decide.{decLe}
 use native.Mathlib.Omega.{arith}
 use lib.Dec.{T, leb, ltb, eqb, leb→le, ltb→lt}
 use lib.Count.{leadingZeros}
 use lib.IntN.{ℤ, pos, negsuc}
 use lib.Pow.{pow-add, pow-pos, pow-mono, pow-lt, shl-lt}
-use lib.Ieee.{Float, nan, inf, fin, binary64, up, down, lt, size, units, ofBits, toBits, fits}
+use lib.Ieee.{Float, nan, inf, fin, binary64, up, down, lt, le, size, units, ofBits, toBits, fits}
 use lib.Ieee.Digits.{back}
 use lib.Ieee.Exact.{HasValue, units-val}
+use lib.Ieee.Order.{le-of-values}
 use lib.Ieee.Fits.{down-pos, and-l, and-r}
 use lib.Ieee.Bits.{ofBits-fits, is-true}
 use lib.Ieee.Positive.{num, den, den-pos, positive, positive-of-value, value→cross}
@@ -41,11 +42,16 @@ MiddleBelow x y z = total x y * total x y * den z < 4 * num z * (den x * den y *
 abbrev pub MiddleAbove : Float → Float → Float → Type 0
 MiddleAbove x y z = 4 * num z * (den x * den y * (den x * den y)) < total x y * total x y * den z
 
--- r is a positive binary64, and the exact root of x lies nearer to r than to any other binary64 y from 0 up:
+-- 2^-1022
+abbrev pub leastNormal : Float
+leastNormal = fin false 1 (negsuc 1021)
+
+-- r is a positive normal binary64, and the exact root of x lies nearer to r than to any other binary64 y from 0 up:
 -- above the middle of r and a y below r, and below the middle of r and a y above r. A y below 0 lies farther away than 0 does.
 pub record NearestRoot (x r : Float) : Type 0 where
   pub held : T (fits binary64 r)
   pub is-positive : T (positive r)
+  pub is-normal : T (le leastNormal r)
   pub below : (y : Float) → T (fits binary64 y) → T (unsigned y) → T (lt y r) → MiddleBelow r y x
   pub above : (y : Float) → T (fits binary64 y) → T (unsigned y) → T (lt r y) → MiddleAbove r y x
 
@@ -256,6 +262,10 @@ root-scale n m h e =
     ∙ ap (λ (z : ℕ). m * (4 ^ h * z)) (sym (four-pow 484))
     ∙ ap (λ (z : ℕ). m * z) (sym (pow-add 4 h 484) ∙ four-pow k ∙ pow-add 2 k k)
 
+normal-scale : (i j q u : ℕ) → 2 ^ i ≤ q → 0 < u → 1 * 2 ^ (i + j) ≤ q * u * 2 ^ j
+normal-scale i j q u h p =
+    le-trans (le-of-eq (one-mul (2 ^ (i + j)) ∙ pow-add 2 i j)) (mul-le-mul-right (2 ^ j) (le-trans h (le-trans (le-of-eq (sym (mul-one q))) (mul-le-mul-left q p))))
+
 -- ---- the theorem
 lt-cross : (x y : Float) → T (unsigned x) → T (unsigned y) → T (lt x y) → num x * den y < num y * den x
 unfolding lt
@@ -302,6 +312,12 @@ module _ (x : Float) (n a h : ℕ) (value : HasValue x false n (2 ^ 1074)) (d : 
   answer-positive : T (positive answer)
   answer-positive = positive-of-value answer (digits-of * 2 ^ (h + 484)) (2 ^ 1074) answer-value (mul-pos (lt-of-lt-of-le (pow-pos 52) (bounds .0)) (pow-pos (h + 484)))
 
+  -- 2 ^ 1074 ≤ digits * 2 ^ k * 2 ^ 1022
+  answer-normal : T (le leastNormal answer)
+  answer-normal =
+      le-of-values leastNormal answer 1 (2 ^ 1022) (digits-of * 2 ^ (h + 484)) (2 ^ 1074) (pow-pos 1022) (pow-pos 1074) (refl, refl) answer-value
+      (normal-scale 52 1022 digits-of (2 ^ (h + 484)) (bounds .0) (pow-pos (h + 484)))
+
   scale : 4 * (n * 2 ^ 1074) ≡ 4 * (a * 2 ^ 52) * (2 ^ (h + 484) * 2 ^ (h + 484))
   scale = ap (λ (z : ℕ). 4 * z) (root-scale n (a * 2 ^ 52) h (d .value)) ∙ sym (mul-assoc 4 (a * 2 ^ 52) (2 ^ (h + 484) * 2 ^ (h + 484)))
 
@@ -337,7 +353,7 @@ module _ (x : Float) (n a h : ℕ) (value : HasValue x false n (2 ^ 1074)) (d : 
   units-nearest : NearestRoot x (rootUnits n)
   units-nearest =
       subst (λ (z : Float). NearestRoot x z) (sym (the-root-units n a h d))
-      (record { held = answer-held; is-positive = answer-positive; below = middle-below; above = middle-above })
+      (record { held = answer-held; is-positive = answer-positive; is-normal = answer-normal; below = middle-below; above = middle-above })
 
 -- ---- the definition at a positive finite number
 wrong : {A : Type 0} → false ≡ true → A
