@@ -78,7 +78,7 @@ room-few n p out summary h k = go (ltb summary 24) (ltb out (8 * (n * (p + 4))))
     go false true = omega arith
     go false false = let m : p + 4 ≤ 11 = omega (arith, k) in omega (arith, mul-le-mul h m)
 
--- 13 comes exactly where the summary has fewer than 24 bytes, or the output fewer than 8·n·(p + 4)
+-- with 24 bytes for the summary and 8·n·(p + 4) for the output there is room for every row
 pub room-enough : (n p out summary : ℕ) → 24 ≤ summary → 8 * (n * (p + 4)) ≤ out → roomOf n p out summary ≡ n * (p + 4)
 unfolding roomOf
 room-enough n p out summary h k = rw (le-ltb summary 24 h, le-ltb out (8 * (n * (p + 4))) k)

@@ -87,7 +87,9 @@ answered-written (Fitted v) room rows out summary w =
 answered-written (Failed r v) room rows out summary w =
     let k = refusal-ranged r in
     record { number = k .most; solves = λ z. absurd (omega (arith, k .some, z)) }
-answered-written (Rejected r) room rows out summary w = answered-refused r out summary
+answered-written (Rejected r) room rows out summary w =
+    let k = refusal-ranged r in
+    record { number = k .most; solves = λ z. absurd (omega (arith, k .some, z)) }
 
 answered-parts : (coords x y : List ℕ) (n p : ℕ) (o : GwrOptions) (out summary : List ℕ) → Answered (fitParts coords x y n p o out summary)
 unfolding fitParts
