@@ -6,18 +6,15 @@ use mathlib.Core.Logic.{_⊎_, inl, inr}
 use Prim.Native.Nat.{ℕ, zero, suc, _+_, _-_}
 use native.Mathlib.Omega.{arith}
 use lib.Dec.{T, T-not}
-use lib.Ieee.{Float, nan, inf, fin, lt, le, isNan}
-use lib.Ieee.Scale.{finite}
+use lib.Ieee.{Float, lt, le, isNan}
 use Rattle.real.specs.Fold.{turns, range}
-use Rattle.real.proofs.SignedOrder.{le-tr, le-total, lt→le, nlt→le, lt-not-le}
+use Rattle.real.proofs.SignedOrder.{le-tr, le-total, lt→le, nlt→le}
 use Rattle.normal.specs.Data.{Data}
-use Rattle.criterion.specs.declared.Criterion.{Criterion}
-use Rattle.criterion.specs.declared.Criterion.the-variants as criterion
-use Rattle.criterion.specs.Aicc.{scoreOf}
 use Rattle.golden.specs.declared.Bracket.{Bracket}
 use Rattle.golden.specs.Golden.{startOf, firstOf, secondOf, aimOf, improvedOf, narrowOf, goesLeft}
 use Rattle.plan.specs.declared.GwrOptions.{GwrOptions}
 use Rattle.gwr.specs.declared.Search.{Search}
+use Rattle.gwr.proofs.Literal.{apart, score-num}
 use Rattle.gwr.specs.Search.{trialOf, roundWith, roundOf, openedOf, goldenOf}
 use Rattle.claims.specs.Whole.{Scored, scoredAt, afterRounds, triedOf, All, Least, Earliest}
 
@@ -37,31 +34,8 @@ all-at P (w ∷ l) t k h = all-at P l t k (h .1)
 
 -- ---- scores
 
--- what is strictly below is not above
-apart : (x y : Float) → T (lt x y) → T (le y x) → ⊥
-unfolding lt le
-apart nan y h k = h
-apart (inf s) nan h k = h
-apart (inf true) (inf true) h k = h
-apart (inf true) (inf false) h k = k
-apart (inf false) (inf t) h k = h
-apart (inf true) (fin t n d) h k = k
-apart (inf false) (fin t n d) h k = h
-apart (fin s m e) nan h k = h
-apart (fin s m e) (inf true) h k = h
-apart (fin s m e) (inf false) h k = k
-apart (fin s m e) (fin t n d) h k = lt-not-le (fin s m e) (fin t n d) tt tt h k
-
 abbrev Num : Float → Type 0
 Num x = T (not (isNan x))
-
--- a score is no NaN
-score-num : (c : Criterion) → Num (scoreOf c)
-unfolding scoreOf isNan finite
-score-num (criterion.Value nan) = tt
-score-num (criterion.Value (inf s)) = tt
-score-num (criterion.Value (fin s m e)) = tt
-score-num (criterion.Refused r) = tt
 
 self : (x : Float) → Num x → T (le x x)
 self x n = go (le-total x x n n)

@@ -7,7 +7,7 @@ use Prim.Native.Nat.{ℕ, _+_, _*_, _-_, _/_, _≤_, _<_, min}
 use native.Mathlib.Omega.{arith}
 use borrow.Author.Tests.{le-leb, leb-true}
 use lib.Dec.{leb}
-use lib.ListN.{length}
+use lib.ListN.{length, drop}
 use lib.Ieee.{Float}
 use Rattle.refusal.specs.declared.Refusal.the-variants.{UnfitRecord}
 use Rattle.neighbours.specs.declared.GwrBandwidth.{GwrBandwidth}
@@ -27,13 +27,14 @@ use Rattle.job.specs.Step.{stepOf, overOf}
 use Rattle.job.specs.Run.{steps}
 use Rattle.job.specs.Turn.{setupOf, begunWith, beginOf, answerAt}
 use Rattle.claims.specs.Whole.{countOf, endedWith, finalBandwidth, searchSolves, Scored, trialsOf, All, Earliest}
-use Rattle.claims.specs.Turns.{State, Result, Turn, settled, play, AllLawful, granted, owed}
+use Rattle.claims.specs.Turns.{State, Result, Turn, settled, unwrittenFrom, play, AllLawful, granted, owed}
 use Rattle.claims.proofs.Leading.{Leads, leads-on}
 use Rattle.claims.proofs.Fitting.{Ends, plan-ends, plan-final}
 use Rattle.claims.proofs.Holding.{Holds, holds-steps}
 use Rattle.claims.proofs.Starting.{Started, started, lent-passes}
 use Rattle.claims.proofs.Playing.{Played, played, over-is}
 use Rattle.claims.proofs.Rising.{steps-solves, few-solves, stays}
+use Rattle.claims.proofs.Untouched.{Untouched, steps-untouched}
 use Rattle.claims.proofs.Best.{bestOf, golden-best}
 
 -- a job: its data, its options and the output that it is lent
@@ -70,6 +71,9 @@ module _ (coords x y : List Float) (p : ℕ) (o : GwrOptions) (out : List Float)
   pub record DemandThree (ts : List Turn) (s : State) (rs : List Result) (G : ℕ) : Type 0 where
     -- record and written rows are those of so many steps from beginning: the smaller of the solve count and the sum
     pub state : s ≡ after (min count G)
+    -- a turn alters no other number of its output: those from the first unwritten row on are as they were lent
+    pub untouched : let from = unwrittenFrom (s .0 .stage) (s .0 .location) * (p + 4) in drop from (s .1) ≡ drop from out
+    pub long : length (s .1) ≡ length out
     -- each turn's answer, steps, record and output, refused turns altering nothing
     pub results : rs ≡ owed n p after count (endedWith (whole .0 .answer)) 0 ts
     -- 19 never comes
@@ -99,6 +103,11 @@ module _ (coords x y : List Float) (p : ℕ) (o : GwrOptions) (out : List Float)
   unsolved (plan.Settled b) = refl
   unsolved (plan.Sought lo hi) = refl
 
+  fresh : (q : Plan) → Untouched (setupOf coords p o) out (begunWith q (setupOf coords p o) .job, out)
+  fresh (plan.Refused r) = refl
+  fresh (plan.Settled b) = refl
+  fresh (plan.Sought lo hi) = refl
+
   -- every list of turns on an accepted job, with any allowances, and anything else lent where a turn is refused
   pub demand-three : beginOf coords x y p o (length out) .answer ≡ beginning.Ready → (ts : List Turn) → AllLawful coords x y ts begun →
       let r = play coords x y ts begun in
@@ -121,6 +130,10 @@ module _ (coords x y : List Float) (p : ℕ) (o : GwrOptions) (out : List Float)
       let at : count ≤ G → play coords x y ts begun .0 ≡ e .end = λ h. pl .state ∙ ap after (omega arith) ∙ e .way .to in
       record {
         state = pl .state;
+        untouched =
+            subst⁻¹ (Untouched u out) (pl .state)
+            (steps-untouched data' u (length out) out room (min count G) begun (st .holds) (fresh q) (λ i l. e .way .live i (omega arith)));
+        long = ap (λ (s : State). length (s .1)) (pl .state) ∙ holds (min count G) (omega arith) .length-is;
         results = pl .results;
         never-unfit = pl .other;
         finishes = rw (pl .state, over) (λ h. leb-true count G h, λ h. le-leb count G h);

@@ -7,4 +7,5 @@ pub mod Starting
 pub mod Playing
 pub mod Best
 pub mod Rising
+pub mod Untouched
 pub mod DemandThree

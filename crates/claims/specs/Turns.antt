@@ -45,6 +45,14 @@ settled Round = false
 settled Final = true
 settled (Ended c) = true
 
+-- 01: only the final fit writes, row by row; a job at this stage and location has written in no row from this one on
+abbrev pub unwrittenFrom : Stage → ℕ → ℕ
+unwrittenFrom First i = 0
+unwrittenFrom Second i = 0
+unwrittenFrom Round i = 0
+unwrittenFrom Final i = i
+unwrittenFrom (Ended c) i = i + 1
+
 -- ---- the list is played
 
 -- the job's data

@@ -1,14 +1,19 @@
 -- The search is `golden_section_min` as 000 has it, variable by variable.
-use mathlib.Core.Path.{_≡_, refl, sym, ap, subst⁻¹, _∙_}
+use mathlib.Core.Path.{_≡_, refl, sym, ap, subst, subst⁻¹, _∙_}
+use mathlib.Core.List.{List}
 use mathlib.Core.Bool.{Bool, true, false, cond, not}
-use Prim.Native.Nat.{ℕ, zero, suc, _+_, _-_}
+use Prim.Native.Nat.{ℕ, zero, suc, _+_, _-_, _/_, _^_, _≤_, _<_}
 use native.Mathlib.Omega.{arith}
-use lib.Dec.{T, T-not}
-use lib.Ieee.{Float, nan, inf, fin, binary64, add, sub, mul, lt, le, isNan}
+use lib.Dec.{T, T-not, leb, le→leb, nleb→lt}
+use lib.ListN.{length}
+use lib.IntN.{pos}
+use lib.Ieee.{Float, nan, inf, fin, binary64, add, sub, mul, lt, le, isNan, round, ofInt, toUnsigned, inFloat}
+use lib.Ieee.Order.{round-mono}
+use lib.Ieee.Back.{unsigned-back}
 use lib.Ieee.Scale.{finite}
 use Rattle.real.specs.Fold.{turns, range}
 use Rattle.real.specs.Reals.{magnitude, lesser}
-use Rattle.real.proofs.SignedOrder.{lt-not-le, nlt→le}
+use Rattle.real.proofs.SignedOrder.{natural, sgn-natural, in-fin, round-sgn, toUnsigned-mono, lt-not-le, nlt→le}
 use Rattle.normal.specs.Data.{Data}
 use Rattle.criterion.specs.declared.Criterion.{Criterion}
 use Rattle.criterion.specs.declared.Criterion.the-variants as criterion
@@ -16,9 +21,19 @@ use Rattle.criterion.specs.Aicc.{scoreOf}
 use Rattle.golden.specs.declared.Bracket.{Bracket}
 use Rattle.golden.specs.Golden.{invPhi, invPhi2, G, G2, startOf, secondOf, aimOf, improvedOf, narrowOf, tightOf}
 use Rattle.golden.proofs.Round.{G-is, G2-is, round-000, round-is}
+use Rattle.neighbours.specs.declared.GwrBandwidth.{GwrBandwidth}
+use Rattle.neighbours.specs.declared.GwrBandwidth.the-variants.{Fixed, AdaptiveKnn}
+use Rattle.plan.specs.declared.Check.{Check}
+use Rattle.plan.specs.declared.Check.the-variants as check
 use Rattle.plan.specs.declared.GwrOptions.{GwrOptions}
+use Rattle.plan.specs.declared.Plan.{Plan}
+use Rattle.plan.specs.declared.Plan.the-variants as plan
+use Rattle.plan.specs.Checks.{judge, inputTests}
+use Rattle.plan.specs.Plan.{greatestDistance, leastDistance, usableDistance, leastCount, greatestCount, distancePlan, rangePlan, countPlan, givenPlan, searchPlan, planOf, after, acceptOf}
+use Rattle.plan.proofs.Acceptance.{sought-accepted}
 use Rattle.gwr.specs.declared.Search.{Search}
 use Rattle.gwr.specs.declared.Trial.{Trial}
+use Rattle.gwr.specs.Fit.{jobData}
 use Rattle.gwr.specs.Search.{trialOf, roundWith, roundOf, openedOf, goldenOf, Variables, loopBody, loopFor, beforeLoop, goldenSectionMin}
 
 -- what is strictly below is not above
@@ -133,3 +148,64 @@ module _ (d : Data) (o : GwrOptions) where
   pub golden-literal : (lo hi : Float) → le hi lo ≡ false → _≡_ {A = Float × ℕ} (goldenOf d o lo hi .bracket .best, goldenOf d o lo hi .solves) (goldenSectionMin score lo hi)
   unfolding goldenSectionMin
   golden-literal lo hi h = rw h (ap (λ (v : Variables). (v .bestX, v .solves)) (loop-literal lo hi))
+
+-- ---- a search that is accepted has lo below hi, so that 000's `if a >= b` does not hold
+
+whole-natural : (n : ℕ) → n ≤ 1024 → T (natural (ofInt binary64 (pos n)))
+unfolding ofInt
+whole-natural n h =
+    let z : T (le (round binary64 false 0 1) (round binary64 false n 1)) = round-mono binary64 0 1 n 1 (omega arith) (omega arith) (omega arith) in
+    let k : T (le (round binary64 false n 1) (round binary64 false 1024 1)) = round-mono binary64 n 1 1024 1 (omega arith) (omega arith) (omega arith) in
+    sgn-natural (round binary64 false n 1) (in-fin (round binary64 false 0 1) (round binary64 false n 1) (round binary64 false 1024 1) (unfold round in tt) (unfold round in tt) z k) (round-sgn binary64 false n 1)
+
+whole-back : (n : ℕ) → n ≤ 1024 → toUnsigned 64 (ofInt binary64 (pos n)) ≡ n
+whole-back n h = unsigned-back binary64 64 n (unfold inFloat in le→leb n (2 ^ 53) (omega arith)) (omega arith) .1
+
+whole-apart : (m n : ℕ) → m < n → n ≤ 1024 → le (ofInt binary64 (pos n)) (ofInt binary64 (pos m)) ≡ false
+whole-apart m n l h = go (le (ofInt binary64 (pos n)) (ofInt binary64 (pos m))) refl
+  where
+    go : (b : Bool) → le (ofInt binary64 (pos n)) (ofInt binary64 (pos m)) ≡ b → b ≡ false
+    go false e = refl
+    go true e =
+        let k = toUnsigned-mono 64 (ofInt binary64 (pos n)) (ofInt binary64 (pos m)) (whole-natural n h) (whole-natural m (omega arith)) (subst⁻¹ T e tt) in
+        absurd (omega (arith, k, whole-back n h, whole-back m (omega arith)))
+
+abbrev Apart : Plan → Type 0
+Apart (plan.Settled b) = Unit {0}
+Apart (plan.Sought lo hi) = le hi lo ≡ false
+Apart (plan.Refused r) = Unit {0}
+
+either : (b : Bool) (q s : Plan) → (b ≡ true → Apart q) → (b ≡ false → Apart s) → Apart (cond b q s)
+either true q s h k = h refl
+either false q s h k = k refl
+
+plan-apart : (coords : List Float) (n p : ℕ) (o : GwrOptions) → n ≤ 512 → p ≤ 7 → Apart (planOf coords n p o)
+unfolding planOf searchPlan givenPlan rangePlan distancePlan countPlan
+plan-apart coords n p o few narrow = either (o .«optimize_bandwidth») _ _ (λ _. sought (o .bandwidth)) (λ _. given (o .bandwidth))
+  where
+    hi : Float
+    hi = greatestDistance coords n
+
+    sought : (w : GwrBandwidth) → Apart (searchPlan coords n p w)
+    sought (Fixed b) = either (usableDistance hi) _ _ (λ _. either (le hi (leastDistance hi n)) _ _ (λ _. tt) (λ e. e)) (λ _. tt)
+    sought (AdaptiveKnn k) =
+        either (leb (greatestCount n p) (leastCount p)) _ _ (λ _. tt)
+        (λ e. whole-apart (leastCount p) (greatestCount n p) (nleb→lt (greatestCount n p) (leastCount p) (subst⁻¹ (λ (z : Bool). T (not z)) e tt)) (omega arith))
+
+    given : (w : GwrBandwidth) → Apart (givenPlan w n)
+    given (Fixed b) = either (usableDistance b) _ _ (λ _. tt) (λ _. tt)
+    given (AdaptiveKnn k) = tt
+
+after-apart : (k : Check) (q : Plan) → Apart q → Apart (after k q)
+unfolding after
+after-apart check.Pass q h = h
+after-apart (check.Refused r) q h = tt
+
+-- the search of an accepted job is 000's `golden_section_min`: the point that it finds, and the solves
+pub sought-literal : (coords x y : List Float) (p : ℕ) (o : GwrOptions) (out : ℕ) (lo hi : Float) → acceptOf coords x y p o out ≡ plan.Sought lo hi
+    → let d = jobData coords x y p in _≡_ {A = Float × ℕ} (goldenOf d o lo hi .bracket .best, goldenOf d o lo hi .solves) (goldenSectionMin (trialOf d o) lo hi)
+unfolding acceptOf
+sought-literal coords x y p o out lo hi e =
+    let s = sought-accepted coords x y p o out lo hi e .shaped in
+    golden-literal (jobData coords x y p) o lo hi
+    (subst Apart e (after-apart (judge (inputTests coords x y p out)) (planOf coords (length coords / 2) p o) (plan-apart coords (length coords / 2) p o (s .few) (s .narrow))))

@@ -30,21 +30,6 @@ pub fn both(a: bool, b: bool) -> bool {
     if a { b } else { false }
 }
 
-// A criterion's refusal number, 0 for none, and its value.
-fn criterion_number(c: Criterion) -> u32 {
-    match c {
-        Criterion::Value(_) => 0,
-        Criterion::Refused(r) => r.number(),
-    }
-}
-
-fn criterion_value(c: Criterion) -> f64 {
-    match c {
-        Criterion::Value(v) => v,
-        Criterion::Refused(_) => 0.0,
-    }
-}
-
 // A stage as a number: its place, or 100 and the refusal where it has ended.
 fn stage_number(s: Stage) -> u32 {
     match s {
@@ -52,13 +37,19 @@ fn stage_number(s: Stage) -> u32 {
         Stage::Second => 2,
         Stage::Round => 3,
         Stage::Final => 4,
-        Stage::Ended(c) => 100 + criterion_number(c) % 100,
+        Stage::Ended(c) => match c {
+            Criterion::Value(_) => 100,
+            Criterion::Refused(r) => 100 + r.number() % 100,
+        },
     }
 }
 
 fn stage_value(s: Stage) -> f64 {
     match s {
-        Stage::Ended(c) => criterion_value(c),
+        Stage::Ended(c) => match c {
+            Criterion::Value(v) => v,
+            Criterion::Refused(_) => 0.0,
+        },
         _ => 0.0,
     }
 }
@@ -71,16 +62,12 @@ fn kernel_number(k: GwrKernel) -> u32 {
     }
 }
 
-// 0 for a distance, and one more than the count for a count.
+// A count, or a number that no count has for a distance.
 fn bandwidth_kind(b: GwrBandwidth) -> usize {
     match b {
-        GwrBandwidth::Fixed(_) => 0,
-        GwrBandwidth::AdaptiveKnn(k) => counted(k),
+        GwrBandwidth::Fixed(_) => 1000000,
+        GwrBandwidth::AdaptiveKnn(k) => k,
     }
-}
-
-fn counted(k: usize) -> usize {
-    if k < 1000000 { k + 1 } else { k }
 }
 
 fn bandwidth_value(b: GwrBandwidth) -> f64 {
@@ -119,17 +106,6 @@ fn same_place(a: Job, b: Job) -> bool {
     )
 }
 
-fn same_stage(a: Stage, b: Stage) -> bool {
-    both(
-        stage_number(a) == stage_number(b),
-        same_real(stage_value(a), stage_value(b)),
-    )
-}
-
-fn same_flag(a: bool, b: bool) -> bool {
-    if a { b } else { !b }
-}
-
 // Whether what does not change over a job is the same.
 fn same_setup(a: Setup, b: Setup) -> bool {
     let options_a = a.options;
@@ -139,7 +115,7 @@ fn same_setup(a: Setup, b: Setup) -> bool {
     let bandwidth_a = options_a.bandwidth;
     let bandwidth_b = options_b.bandwidth;
     let sizes = both(a.n == b.n, a.p == b.p);
-    let flags = same_flag(options_a.optimize_bandwidth, options_b.optimize_bandwidth);
+    let flags = options_a.optimize_bandwidth == options_b.optimize_bandwidth;
     let kernels = kernel_number(kernel_a) == kernel_number(kernel_b);
     both(
         both(sizes, flags),
@@ -153,7 +129,11 @@ pub fn same_job(a: Job, b: Job) -> bool {
     let setup_b = b.setup;
     let stage_a = a.stage;
     let stage_b = b.stage;
-    let stages = same_stage(stage_a, stage_b);
+    let numbers = stage_number(stage_a) == stage_number(stage_b);
+    let stages = both(
+        numbers,
+        same_real(stage_value(stage_a), stage_value(stage_b)),
+    );
     let setups = same_setup(setup_a, setup_b);
     let bandwidth_a = a.bandwidth;
     let bandwidth_b = b.bandwidth;
@@ -164,22 +144,6 @@ pub fn same_job(a: Job, b: Job) -> bool {
     both(
         both(stages, setups),
         both(both(bandwidths, brackets), same_place(a, b)),
-    )
-}
-
-// Whether a job has ended.
-pub fn has_ended(j: Job) -> bool {
-    let stage = j.stage;
-    stage.is_ended()
-}
-
-pub fn same_summary(a: Summary, b: Summary) -> bool {
-    both(
-        both(
-            same_real(a.bandwidth, b.bandwidth),
-            same_real(a.aicc, b.aicc),
-        ),
-        a.solves == b.solves,
     )
 }
 

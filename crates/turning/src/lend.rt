@@ -19,23 +19,14 @@ fn allowance_of(seed: u64, k: u32) -> u32
         return 4294967295;
     }
     let few = made::draw(made::next_seed(seed), 12) as u32;
-    match made::draw(seed, 6) {
-        0 => 0,
-        1 => 1,
-        2 => 1,
-        3 => few + 2,
-        4 => 40,
-        _ => all_or(few),
+    match made::draw(seed, 24) {
+        0..=3 => 0,
+        4..=11 => 1,
+        12..=15 => few + 2,
+        16..=19 => 40,
+        20 => 4294967295,
+        _ => few,
     }
-}
-
-fn all_or(few: u32) -> u32 {
-    if few == 0 { 4294967295 } else { few }
-}
-
-// The refusal of a turn on a job that may have ended.
-fn wanted(j: Job, number: u32) -> u32 {
-    if compare::has_ended(j) { 20 } else { number }
 }
 
 // One of two numbers.
@@ -121,22 +112,22 @@ fn turn_of(
     )
 }
 
-// The refusal of a turn of this kind on a job that has not ended, 0 for none.
-fn refusal_of(kind: u64, x: &[f64]) -> u32 {
+// The refusal of a turn of this kind, 0 for none: 20 on a job that has ended.
+fn wanted(j: Job, kind: u64, x: usize) -> u32 {
+    let stage = j.stage;
+    if stage.is_ended() {
+        return 20;
+    }
     match kind {
         0 => 21,
         1 => 21,
         2 => 13,
         3 => 8,
         4 => 9,
-        5 => predictor_refusal(x.len()),
+        5 => if 0 < x { 10 } else { 13 },
         6 => 21,
         _ => 0,
     }
-}
-
-fn predictor_refusal(numbers: usize) -> u32 {
-    if 0 < numbers { 10 } else { 13 }
 }
 
 // Turn k of a list.
@@ -152,7 +143,7 @@ pub fn give_turn(
     requires { ⌜ seed < 2 ^ 31 ⌝ }
 {
     let kind = kind_of(seed, k);
-    let want = wanted(j, refusal_of(kind, x));
+    let want = wanted(j, kind, x.len());
     let turned = turn_of(kind, j, coords, x, y, out, allowance_of(seed, k));
     Given { turned, want }
 }

@@ -23,6 +23,14 @@ struct Seen {
     steps: u32,
 }
 
+// How an uninterrupted fit ended: its refusal, 0 for none, and its summary.
+struct Ending {
+    number: u32,
+    bandwidth: f64,
+    aicc: f64,
+    solves: u64,
+}
+
 // The uninterrupted fit of a case, and four lists of turns that are to end as it does.
 pub fn play_case(c: Case, t: Tally) -> Tally
     requires { ⌜ (c .n ≤ 10) × (c .p ≤ 2) × (c .seed < 2 ^ 31) ⌝ }
@@ -59,35 +67,41 @@ fn play_data(
 {
     let mut rows = [0.5; 100];
     let fit = gwr::gwr_fit(coords, x, y, p, options, &mut rows);
+    let ending = ending_of(fit);
     let begun = job::begin(coords, x, y, p, options, &rows);
     let started = begun.answer;
+    let sum = t.fitted(ending.number);
     match started {
-        Beginning::Refused(r) => {
-            let number = r.number();
-            t.fitted(number).expect(rejected_by(fit, number))
-        }
+        Beginning::Refused(r) => sum.expect(r.number() == ending.number),
         Beginning::Ready => {
             let j = begun.job;
-            play_lists(j, coords, x, y, fit, &rows, seed, t.fitted(fit_number(fit)))
+            play_lists(j, coords, x, y, ending, &rows, seed, sum)
         }
     }
 }
 
-// The number of a fit's refusal, 0 for none.
-fn fit_number(fit: Fit) -> u32 {
+// How a fit ended. Only rejected fits have the numbers 1 to 13, and they have no summary.
+fn ending_of(fit: Fit) -> Ending {
     let answer = fit.answer;
     match answer {
-        FitAnswer::Fitted(_) => 0,
-        FitAnswer::Failed(r, _) => r.number(),
-        FitAnswer::Rejected(r) => r.number(),
-    }
-}
-
-fn rejected_by(fit: Fit, number: u32) -> bool {
-    let answer = fit.answer;
-    match answer {
-        FitAnswer::Rejected(r) => r.number() == number,
-        _ => false,
+        FitAnswer::Fitted(v) => Ending {
+            number: 0,
+            bandwidth: v.bandwidth,
+            aicc: v.aicc,
+            solves: v.solves,
+        },
+        FitAnswer::Failed(r, v) => Ending {
+            number: r.number(),
+            bandwidth: v.bandwidth,
+            aicc: v.aicc,
+            solves: v.solves,
+        },
+        FitAnswer::Rejected(r) => Ending {
+            number: r.number(),
+            bandwidth: 0.0,
+            aicc: 0.0,
+            solves: 0,
+        },
     }
 }
 
@@ -96,7 +110,7 @@ fn play_lists(
     coords: &[f64],
     x: &[f64],
     y: &[f64],
-    fit: Fit,
+    fit: Ending,
     rows: &[f64],
     seed: u64,
     t: Tally,
@@ -118,7 +132,7 @@ fn play_list(
     coords: &[f64],
     x: &[f64],
     y: &[f64],
-    fit: Fit,
+    fit: Ending,
     rows: &[f64],
     seed: u64,
     t: Tally,
@@ -161,7 +175,7 @@ fn follow(j: Job, coords: &[f64], x: &[f64], y: &[f64], out: &mut [f64], steps: 
 }
 
 // What a turn answered, held to the record that followed it, to its expected refusal and, where it ended, to the uninterrupted fit.
-fn account(given: Given, followed: Job, fit: Fit, t: Tally, seen: Seen) -> Tally {
+fn account(given: Given, followed: Job, fit: Ending, t: Tally, seen: Seen) -> Tally {
     let turned = given.turned;
     let answer = turned.answer;
     let after = turned.job;
@@ -172,38 +186,27 @@ fn account(given: Given, followed: Job, fit: Fit, t: Tally, seen: Seen) -> Tally
 }
 
 // Whether an answer is the one that is wanted.
-fn answered_so(answer: Answer, want: u32, steps: u32, fit: Fit, seen: Seen) -> bool {
+fn answered_so(answer: Answer, want: u32, steps: u32, fit: Ending, seen: Seen) -> bool {
     match answer {
         Answer::Working => want == 0,
         Answer::Refused(r) => compare::both(r.number() == want, steps == 0),
         Answer::Ended(s) => compare::both(
-            want == 0,
-            compare::both(ended_so(seen, s), fitted_so(fit, s)),
+            compare::both(want == 0, fit.number == 0),
+            ended_so(fit, s, seen),
         ),
         Answer::Failed(r, s) => compare::both(
-            want == 0,
-            compare::both(ended_so(seen, s), failed_so(fit, r.number(), s)),
+            compare::both(want == 0, r.number() == fit.number),
+            ended_so(fit, s, seen),
         ),
     }
 }
 
-// Whether a list ended with the fit's rows, and its turns made as many steps as the summary has solves.
-fn ended_so(seen: Seen, s: Summary) -> bool {
-    compare::both(seen.rows, s.solves == seen.steps as u64)
-}
-
-fn fitted_so(fit: Fit, s: Summary) -> bool {
-    let answer = fit.answer;
-    match answer {
-        FitAnswer::Fitted(v) => compare::same_summary(v, s),
-        _ => false,
-    }
-}
-
-fn failed_so(fit: Fit, number: u32, s: Summary) -> bool {
-    let answer = fit.answer;
-    match answer {
-        FitAnswer::Failed(r, v) => compare::both(r.number() == number, compare::same_summary(v, s)),
-        _ => false,
-    }
+// Whether a list ended with the fit's rows and summary, and its turns made as many steps as the fit made solves.
+fn ended_so(fit: Ending, s: Summary, seen: Seen) -> bool {
+    let reals = compare::both(
+        compare::same_real(fit.bandwidth, s.bandwidth),
+        compare::same_real(fit.aicc, s.aicc),
+    );
+    let solves = compare::both(s.solves == fit.solves, s.solves == seen.steps as u64);
+    compare::both(seen.rows, compare::both(reals, solves))
 }

@@ -23,71 +23,57 @@ struct Row {
     want: u32,
 }
 
-// A final fit of four observations and one predictor, at location 2, by a distance.
-fn plain(want: u32) -> Row {
+// A final fit of these sizes at this location and bandwidth, 1000 for a distance.
+fn shaped(n: usize, p: usize, location: usize, kind: usize, bandwidth: usize, want: u32) -> Row {
     Row {
         stage: 4,
-        kind: 1000,
-        bandwidth: 1000,
-        n: 4,
-        p: 1,
-        location: 2,
+        kind,
+        bandwidth,
+        n,
+        p,
+        location,
         trials: 3,
         solves: 14,
         want,
     }
 }
 
-fn sized(n: usize, p: usize, location: usize, want: u32) -> Row {
-    let mut row = plain(want);
-    row.n = n;
-    row.p = p;
-    row.location = location;
-    row
-}
-
-fn banded(kind: usize, bandwidth: usize, want: u32) -> Row {
-    let mut row = plain(want);
-    row.kind = kind;
-    row.bandwidth = bandwidth;
-    row
-}
-
+// A job of four observations and one predictor, at location 2, by a distance.
 fn tried(stage: u32, trials: usize, solves: u64, want: u32) -> Row {
-    let mut row = plain(want);
-    row.stage = stage;
-    row.trials = trials;
-    row.solves = solves;
-    row
-}
-
-// Sizes and location: 21 where they are fit, and not those of the data lent.
-fn size_row(k: u32) -> Row {
-    match k {
-        0 => sized(513, 1, 2, 19),
-        1 => sized(0, 0, 0, 19),
-        2 => sized(4, 4, 2, 19),
-        3 => sized(4, 8, 2, 19),
-        4 => sized(4, 1, 3, 99),
-        5 => sized(4, 1, 4, 19),
-        6 => sized(5, 1, 2, 21),
-        _ => sized(4, 3, 2, 21),
+    Row {
+        stage,
+        kind: 1000,
+        bandwidth: 1000,
+        n: 4,
+        p: 1,
+        location: 2,
+        trials,
+        solves,
+        want,
     }
 }
 
-// A bandwidth of the other kind, or a count out of range.
-fn band_row(k: u32) -> Row {
+// Sizes and location, 21 where they are fit and not those of the data lent; a bandwidth of the other kind, or a count out of range.
+fn shape_row(k: u32) -> Row {
     match k {
-        8 => banded(3, 1000, 19),
-        9 => banded(1000, 3, 19),
-        10 => banded(3, 513, 19),
-        11 => banded(3, 0, 19),
-        12 => banded(3, 512, 99),
-        _ => banded(3, 1, 99),
+        0 => shaped(513, 1, 2, 1000, 1000, 19),
+        1 => shaped(0, 0, 0, 1000, 1000, 19),
+        2 => shaped(4, 4, 2, 1000, 1000, 19),
+        3 => shaped(4, 8, 2, 1000, 1000, 19),
+        4 => shaped(4, 1, 3, 1000, 1000, 99),
+        5 => shaped(4, 1, 4, 1000, 1000, 19),
+        6 => shaped(5, 1, 2, 1000, 1000, 21),
+        7 => shaped(4, 3, 2, 1000, 1000, 21),
+        8 => shaped(4, 1, 2, 3, 1000, 19),
+        9 => shaped(4, 1, 2, 1000, 3, 19),
+        10 => shaped(4, 1, 2, 3, 513, 19),
+        11 => shaped(4, 1, 2, 3, 0, 19),
+        12 => shaped(4, 1, 2, 3, 512, 99),
+        _ => shaped(4, 1, 2, 3, 1, 99),
     }
 }
 
-// Trials that a stage can have, and cannot.
+// Trials that a stage can have, and cannot; solves that trials and location allow, one more once the job has ended.
 fn trial_row(k: u32) -> Row {
     match k {
         14 => tried(1, 0, 2, 99),
@@ -101,13 +87,7 @@ fn trial_row(k: u32) -> Row {
         22 => tried(3, 102, 2, 19),
         23 => tried(4, 0, 2, 99),
         24 => tried(4, 102, 2, 99),
-        _ => tried(4, 103, 2, 19),
-    }
-}
-
-// Solves that trials and location allow, one more once the job has ended, and trials of an ended job.
-fn solve_row(k: u32) -> Row {
-    match k {
+        25 => tried(4, 103, 2, 19),
         26 => tried(4, 3, 14, 99),
         27 => tried(4, 3, 15, 19),
         28 => tried(5, 3, 15, 20),
@@ -118,12 +98,7 @@ fn solve_row(k: u32) -> Row {
 }
 
 fn row_of(k: u32) -> Row {
-    match k {
-        0..=7 => size_row(k),
-        8..=13 => band_row(k),
-        14..=25 => trial_row(k),
-        _ => solve_row(k),
-    }
+    if k < 14 { shape_row(k) } else { trial_row(k) }
 }
 
 fn stage_of(stage: u32) -> Stage {
