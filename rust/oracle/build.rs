@@ -33,6 +33,7 @@ const SUBSTITUTIONS: [(&str, &str, usize); 8] = [
         "    crate::support::end_solve(&beta, predicted, residual, local_r2);\n    Ok((beta, predicted, residual, local_r2, leverage))\n}",
         1,
     ),
+    // Line ends are single line feeds, as the texts above have them.
     ("\r", "", 0),
 ];
 
@@ -54,7 +55,11 @@ fn main() {
     println!("cargo::rerun-if-changed=build.rs");
     println!("cargo::rustc-check-cfg=cfg(gwr_source)");
     println!("cargo::rustc-check-cfg=cfg(feature, values(\"parallel\"))");
-    let Some(file) = source() else { return };
+    let Some(file) = source() else {
+        // A file that is not there has cargo run this again at the next build.
+        println!("cargo::rerun-if-changed=source-is-missing");
+        return;
+    };
     println!("cargo::rerun-if-changed={}", file.display());
     let mut text = match fs::read_to_string(&file) {
         Ok(text) => text,
