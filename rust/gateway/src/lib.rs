@@ -175,8 +175,8 @@ pub fn gwr_fit(
         .flat_map(|v| v.to_le_bytes())
         .collect();
     let mut x_bytes = little_endian(x.iter().flatten());
-    if x.len() != n || x.iter().any(|row| row.len() != p) {
-        // Flat bytes cannot show the rows. One byte too many has the proved code refuse the length, in its order.
+    if (p == 0 && x.len() != n) || x.iter().any(|row| row.len() != p) {
+        // Flat bytes cannot show this. One byte too many has the proved code refuse the length, in its order.
         x_bytes.push(0);
     }
     // Room for the largest job that is not refused is enough for any.
