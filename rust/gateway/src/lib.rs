@@ -229,8 +229,10 @@ mod tests {
         optimize_bandwidth: false,
     };
 
+    type Observations = (Vec<(f64, f64)>, Vec<Vec<f64>>, Vec<f64>);
+
     /// A line of n places whose response is 3 + 2x.
-    fn line(n: usize) -> (Vec<(f64, f64)>, Vec<Vec<f64>>, Vec<f64>) {
+    fn line(n: usize) -> Observations {
         let coords = (0..n).map(|i| (i as f64, 0.5 * i as f64)).collect();
         let x: Vec<Vec<f64>> = (0..n).map(|i| vec![(i * i % 7) as f64]).collect();
         let y = x.iter().map(|row| 3.0 + 2.0 * row[0]).collect();
@@ -254,7 +256,7 @@ mod tests {
                     assert_eq!(fit.residuals[i], y[i] - fit.predicted[i]);
                     assert!((0.0..=1.0).contains(&fit.local_r2[i]));
                 }
-                assert!(fit.solves % 20 == 0 && (fit.solves > 20) == optimize_bandwidth);
+                assert!(fit.solves.is_multiple_of(20) && (fit.solves > 20) == optimize_bandwidth);
             }
         }
     }
