@@ -27,7 +27,7 @@ bench:
 	@$(CARGO) bench
 
 store:
-	@$(CARGO) oracle --bin store -- 360 >crates/replay/stdin.new
+	@$(CARGO) oracle --bin store -- 360 >../crates/replay/stdin.new
 	@mv crates/replay/stdin.new crates/replay/stdin
 
 fmt:

@@ -1,14 +1,13 @@
 //! Times full fits of the proved code against 000 with 01's steps, in the same run, and single weights: `bench [REPEATS]`.
 //!
-//! Each line has the median of both sides and their ratio (proved by 000; below 1 the proved code is faster). The sides take
-//! turns, so that a busy machine slows both.
+//! Each line has the median of both sides and their ratio (proved by 000; below 1 the proved code is faster). Times are the
+//! processor's for this thread, not the clock's, and the sides take turns, so that other work on the machine weighs less.
 
 use gateway::GwrKernel;
 use oracle::Job;
 use oracle::generate::Rng;
 use std::hint::black_box;
 use std::process::ExitCode;
-use std::time::Instant;
 
 const KERNELS: [&str; 3] = ["Gaussian", "Bisquare", "Exponential"];
 const KINDS: [&str; 4] = ["distance", "count", "searched distance", "searched count"];
@@ -54,10 +53,35 @@ fn proved(job: &Job) -> u64 {
     u64::from_le_bytes(summary[16..].try_into().expect("8 bytes"))
 }
 
+#[repr(C)]
+struct Timespec {
+    seconds: i64,
+    nanoseconds: i64,
+}
+
+unsafe extern "C" {
+    fn clock_gettime(clock: i32, time: *mut Timespec) -> i32;
+}
+
+/// Linux's number of the clock that counts the processor's time for this thread.
+const THREAD_CPU: i32 = 3;
+
+/// The processor's time for this thread, in microseconds.
+fn now() -> f64 {
+    let mut time = Timespec {
+        seconds: 0,
+        nanoseconds: 0,
+    };
+    // SAFETY: the C library writes one timespec, which has this layout on 64-bit Linux.
+    let status = unsafe { clock_gettime(THREAD_CPU, &mut time) };
+    assert_eq!(status, 0, "this thread has a clock");
+    time.seconds as f64 * 1e6 + time.nanoseconds as f64 / 1e3
+}
+
 fn microseconds(run: impl FnOnce()) -> f64 {
-    let start = Instant::now();
+    let start = now();
     run();
-    start.elapsed().as_secs_f64() * 1e6
+    now() - start
 }
 
 fn median(mut times: Vec<f64>) -> f64 {

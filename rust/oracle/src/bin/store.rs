@@ -1,7 +1,8 @@
 //! Writes stored jobs with 000's answers to standard output, for crates/replay: `store COUNT`.
 //!
-//! A record: n, p, kernel, kind, bandwidth (8 bytes each), coordinates, predictors, responses, the refusal's number (8 bytes),
-//! the output after the call (n × (p + 4) numbers) and the summary after it (24 bytes). Bytes that the call does not write are A5.
+//! A record: the byte lengths of coordinates, predictors, responses, output and summary; the numbers of predictors, kernel and
+//! kind; the bandwidth; the refusal's number (8 bytes each). Then coordinates, predictors and responses, and output and summary
+//! as they are after the call. Bytes that the call does not write are A5.
 
 use oracle::generate::{Rng, random};
 use std::io::Write;
@@ -32,12 +33,37 @@ fn main() -> ExitCode {
             6 => 3,
             _ => g.below(2),
         };
-        let job = random(&mut g, n, p, kernel, kind);
+        let mut job = random(&mut g, n, p, kernel, kind);
+        // Some with a part too short, or with more room than is written.
+        match i % 40 {
+            5 => job.coords.truncate(job.coords.len() - 8),
+            9 => job.coords.clear(),
+            13 => job.x.push(1),
+            17 => job.y.truncate(job.y.len() - 1),
+            21 => job.out_len -= 1,
+            25 => job.summary_len -= 1,
+            29 => job.kernel = 3,
+            33 => job.kind = 4,
+            37 => job.out_len += 16,
+            _ => {}
+        }
         let answer = job.expected();
-        all.extend(job.header_and_parts());
-        all.extend(u64::from(answer.number).to_le_bytes());
-        all.extend(answer.out);
-        all.extend(answer.summary);
+        let head = [
+            job.coords.len() as u64,
+            job.x.len() as u64,
+            job.y.len() as u64,
+            job.out_len as u64,
+            job.summary_len as u64,
+            job.p,
+            job.kernel,
+            job.kind,
+            job.bandwidth,
+            u64::from(answer.number),
+        ];
+        all.extend(head.iter().flat_map(|v| v.to_le_bytes()));
+        for part in [&job.coords, &job.x, &job.y, &answer.out, &answer.summary] {
+            all.extend(part);
+        }
     }
     match std::io::stdout().write_all(&all) {
         Ok(()) => ExitCode::SUCCESS,
