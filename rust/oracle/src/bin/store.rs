@@ -26,7 +26,7 @@ fn main() -> ExitCode {
     for i in 0..count {
         let n = 1 + g.below(MOST_OBSERVATIONS);
         let p = g.below(MOST_PREDICTORS + 1);
-        let kernel: u64 = i % 3;
+        let kernel = g.below(3);
         // One in six is searched, so that a replay stays short.
         let kind = match i % 12 {
             0 => 2,
@@ -34,8 +34,10 @@ fn main() -> ExitCode {
             _ => g.below(2),
         };
         let mut job = random(&mut g, n, p, kernel, kind);
-        // Some with a part too short, or with more room than is written.
+        // Some with a part too short, a value that is not finite, or more room than is written.
         match i % 40 {
+            1 => job.coords[..8].copy_from_slice(&f64::NAN.to_le_bytes()),
+            3 if p > 0 => job.x[..8].copy_from_slice(&f64::INFINITY.to_le_bytes()),
             5 => job.coords.truncate(job.coords.len() - 8),
             9 => job.coords.clear(),
             13 => job.x.push(1),
@@ -44,6 +46,7 @@ fn main() -> ExitCode {
             25 => job.summary_len -= 1,
             29 => job.kernel = 3,
             33 => job.kind = 4,
+            35 => job.p = 8,
             37 => job.out_len += 16,
             _ => {}
         }
