@@ -37,6 +37,7 @@ fn main() -> ExitCode {
         // Some with a part too short, a value that is not finite, or more room than is written.
         match i % 40 {
             1 => job.coords[..8].copy_from_slice(&f64::NAN.to_le_bytes()),
+            7 => job.y[..8].copy_from_slice(&f64::NAN.to_le_bytes()),
             3 if p > 0 => job.x[..8].copy_from_slice(&f64::INFINITY.to_le_bytes()),
             5 => job.coords.truncate(job.coords.len() - 8),
             9 => job.coords.clear(),
