@@ -1,5 +1,6 @@
 #!/usr/bin/env bash
-# All tests: layout of the files, proofs with must-fail edits and programs (rt ci), and stored runs of gwrprint.
+# All tests: layout of the files, proofs with must-fail edits and programs (rt ci), stored runs of gwrprint, and the Rust side
+# (scripts/rust.sh: its tests, and the comparison with 000).
 # The last line is 'N passed, M failed', and the exit status says whether M is 0.
 set -u
 cd "$(dirname "$0")/.." || exit 2
@@ -13,23 +14,31 @@ note() { # note STATUS NAME
 rt fmt --check >/dev/null 2>&1
 note $? "rt fmt --check"
 
+# run COMMAND..: shows what it writes, and counts what its last line says.
+run() {
+    local log last
+    log=$(mktemp)
+    "$@" 2>&1 | tee "$log"
+    last=$(tail -n 1 "$log")
+    rm -f "$log"
+    if [[ $last =~ ^([0-9]+)\ passed,\ ([0-9]+)\ failed ]]; then
+        passed=$((passed + BASH_REMATCH[1]))
+        failed=$((failed + BASH_REMATCH[2]))
+    else
+        note 1 "$* gave no verdict"
+    fi
+}
+
 mkdir -p target
-log=$(mktemp)
-rt ci 2>&1 | tee "$log"
-last=$(tail -n 1 "$log")
-rm -f "$log"
-if [[ $last =~ ^([0-9]+)\ passed,\ ([0-9]+)\ failed ]]; then
-    passed=$((passed + BASH_REMATCH[1]))
-    failed=$((failed + BASH_REMATCH[2]))
-else
-    note 1 "rt ci gave no verdict"
-fi
+run rt ci
 
 for job in tests/listings/*.job; do
     [ -e "$job" ] || continue
     target/bin/gwrprint <"$job" 2>/dev/null | cmp -s - "${job%.job}.out"
     note $? "$job"
 done
+
+run bash scripts/rust.sh
 
 echo "$passed passed, $failed failed"
 [ "$failed" -eq 0 ]

@@ -1,0 +1,331 @@
+//! The jobs that are compared.
+
+use crate::tally::Tally;
+use oracle::generate::{DISTANCES, Rng, random};
+use oracle::{Job, bytes};
+
+/// Jobs of the small grid, for each of its shapes and choices, at most.
+const GRID_CAP: u64 = 1200;
+/// Values of the small grid.
+const GRID: [f64; 6] = [0.0, -0.0, 1.0, 2.0, 1e200, 1e-200];
+const GRID_DISTANCES: [f64; 5] = [1.0, 1e-200, 1e200, 1.5, 0.0];
+const GRID_COUNTS: [u64; 5] = [0, 1, 2, 3, u64::MAX];
+const NOT_FINITE: [f64; 3] = [f64::NAN, f64::INFINITY, f64::NEG_INFINITY];
+
+/// Every job with n ≤ 3, p ≤ 1 and values of the grid, each kernel, each kind and five bandwidths; where there are more than
+/// the cap of one shape and choice, every s-th of them, with s prime to 2, 3 and 5, so that every value comes in every place.
+pub fn grid(t: &mut Tally) {
+    t.phase("small grid");
+    for n in 1..=3u64 {
+        for p in 0..=1u64 {
+            let places = n * (3 + p);
+            let all = 6u64.pow(places as u32) * 5;
+            let mut step = all / GRID_CAP + 1;
+            while step.is_multiple_of(2) || step.is_multiple_of(3) || step.is_multiple_of(5) {
+                step += 1;
+            }
+            for choice in 0..12 {
+                let (kernel, kind) = (choice % 3, choice / 3);
+                let mut at = choice % step;
+                while at < all {
+                    let mut rest = at / 5;
+                    let values: Vec<f64> = (0..places)
+                        .map(|_| {
+                            let v = GRID[(rest % 6) as usize];
+                            rest /= 6;
+                            v
+                        })
+                        .collect();
+                    let (coords, others) = values.split_at(2 * n as usize);
+                    let (x, y) = others.split_at((n * p) as usize);
+                    let bandwidth = match kind {
+                        0 | 2 => GRID_DISTANCES[(at % 5) as usize].to_bits(),
+                        _ => GRID_COUNTS[(at % 5) as usize],
+                    };
+                    t.fit(&Job::new(coords, x, y, p, (kernel, kind, bandwidth)));
+                    at += step;
+                }
+            }
+        }
+    }
+}
+
+/// Random jobs, every kernel and kind in turn; half are searched.
+pub fn random_jobs(t: &mut Tally, count: u64) {
+    t.phase("random jobs");
+    let mut g = Rng::new(0xC0113A6E);
+    for i in 0..count {
+        let (kernel, kind) = (i % 3, i / 3 % 4);
+        let p = g.below(8).min(g.below(8));
+        let most = match kind {
+            0 | 1 => g.pick(&[6, 12, 24, 48]),
+            _ => g.pick(&[4, 8, 8, 14]),
+        };
+        // Most have enough observations for their predictors.
+        let least = if g.below(12) == 0 { 1 } else { p + 1 };
+        let n = least + g.below(most);
+        let mut job = random(&mut g, n, p, kernel, kind);
+        // A longer output: what stands past the last row must stay.
+        if g.below(4) == 0 {
+            job.out_len += g.below(40) as usize;
+            job.summary_len += g.below(12) as usize;
+        }
+        t.fit(&job);
+    }
+}
+
+/// Numbers of observations around each limit. Large ones are few, and searched only once.
+pub fn boundaries(t: &mut Tally) {
+    t.phase("boundaries");
+    let mut g = Rng::new(0xB0DE);
+    for p in 0..=8u64 {
+        for n in [1, 2, 3, p.max(1), p + 1, p + 2, 2 * p + 3] {
+            for choice in 0..12 {
+                t.fit(&random(&mut g, n, p, choice % 3, choice / 3));
+            }
+        }
+    }
+    for (i, n) in [511, 512, 513].into_iter().enumerate() {
+        for choice in 0..6 {
+            let p = [0, 2, 7, 1, 3, 5][(choice as usize + i) % 6];
+            t.fit(&random(&mut g, n, p, choice % 3, choice / 3));
+        }
+    }
+    t.fit(&random(&mut g, 600, 8, 0, 0));
+    t.fit(&random(&mut g, 64, 2, 1, 3));
+    t.fit(&random(&mut g, 64, 1, 0, 2));
+}
+
+/// One byte more, one less, one number more and less, and none.
+fn lengths(part: &[u8]) -> Vec<Vec<u8>> {
+    let mut all = vec![Vec::new()];
+    for more in [1, 7, 8, 9, 16] {
+        all.push([part, &vec![0x3F; more]].concat());
+        all.push(part[..part.len().saturating_sub(more)].to_vec());
+    }
+    all
+}
+
+/// Copies of a job with something wrong, each compared.
+fn damaged_copies(t: &mut Tally, job: &Job) {
+    let n = job.n() as u64;
+    let mut with = |change: &dyn Fn(&mut Job)| {
+        let mut copy = job.clone();
+        change(&mut copy);
+        t.fit(&copy);
+    };
+    for part in lengths(&job.coords) {
+        with(&|j| j.coords = part.clone());
+    }
+    for part in lengths(&job.x) {
+        with(&|j| j.x = part.clone());
+    }
+    for part in lengths(&job.y) {
+        with(&|j| j.y = part.clone());
+    }
+    for number in [3, 4, 5, 255, 1 << 32, u64::MAX] {
+        with(&|j| j.kernel = number);
+        with(&|j| j.kind = number);
+    }
+    for p in [0, 1, 7, 8, job.p + 1, 1 << 32, u64::MAX] {
+        with(&|j| j.p = p);
+    }
+    // Non-finite values at the first and last place of each part, alone and with a worse one in a later part.
+    for bad in NOT_FINITE {
+        for last in [false, true] {
+            let put = |part: &mut Vec<u8>| {
+                if part.is_empty() {
+                    return;
+                }
+                let at = if last { part.len() - 8 } else { 0 };
+                part[at..at + 8].copy_from_slice(&bad.to_le_bytes());
+            };
+            with(&|j| put(&mut j.coords));
+            with(&|j| put(&mut j.x));
+            with(&|j| put(&mut j.y));
+            with(&|j| {
+                put(&mut j.coords);
+                put(&mut j.x);
+            });
+            with(&|j| {
+                put(&mut j.x);
+                put(&mut j.y);
+                j.out_len = 0;
+            });
+            with(&|j| {
+                put(&mut j.y);
+                j.bandwidth = 0;
+            });
+        }
+    }
+    for (out, summary) in [
+        (-1, 0),
+        (-8, 0),
+        (-(job.out_len as isize), 0),
+        (0, -1),
+        (0, -24),
+        (0, -8),
+        (-1, -1),
+        (1, 0),
+        (9, 1),
+        (64, 40),
+    ] {
+        with(&|j| {
+            j.out_len = j.out_len.saturating_add_signed(out);
+            j.summary_len = j.summary_len.saturating_add_signed(summary);
+        });
+        // 13 comes before 11 and 12.
+        with(&|j| {
+            j.out_len = j.out_len.saturating_add_signed(out);
+            j.summary_len = j.summary_len.saturating_add_signed(summary);
+            j.kind &= 2;
+            j.bandwidth = (-1.0f64).to_bits();
+        });
+    }
+    for d in DISTANCES {
+        with(&|j| {
+            j.kind &= 2;
+            j.bandwidth = d.to_bits();
+        });
+    }
+    for k in [0, 1, 2, n - 1, n, n + 1, 100, 512, 513, 1 << 32, u64::MAX] {
+        with(&|j| {
+            j.kind |= 1;
+            j.bandwidth = k;
+        });
+    }
+    // All places the same: nothing to search. Places too far apart: the same.
+    with(&|j| j.coords.fill(0));
+    for far in [1e300, f64::MAX] {
+        with(&|j| j.coords[..8].copy_from_slice(&f64::to_le_bytes(far)));
+        with(&|j| {
+            j.coords[..8].copy_from_slice(&f64::to_le_bytes(far));
+            j.kind = 2;
+        });
+    }
+    // Singular, and overflowing: predictors all the same, one large predictor, large responses.
+    with(&|j| j.x.fill(0));
+    for large in [1e150, 1e155, 1e200, f64::MAX, -f64::MAX] {
+        with(&|j| {
+            if !j.x.is_empty() {
+                j.x[..8].copy_from_slice(&large.to_le_bytes());
+            }
+        });
+        with(&|j| j.y[..8].copy_from_slice(&large.to_le_bytes()));
+        with(&|j| {
+            let at = j.y.len() - 8;
+            j.y[at..].copy_from_slice(&large.to_le_bytes());
+        });
+    }
+}
+
+/// Damaged copies of random jobs.
+pub fn damaged(t: &mut Tally, count: u64) {
+    t.phase("damaged copies");
+    let mut g = Rng::new(0xDA3A6ED);
+    for i in 0..count {
+        let p = g.below(4);
+        let n = p + 2 + g.below(6);
+        let searched = if i % 4 == 3 { 2 } else { 0 };
+        let job = random(&mut g, n, p, i % 3, i / 3 % 2 + searched);
+        damaged_copies(t, &job);
+    }
+}
+
+/// Jobs that earlier work found to be corners.
+pub fn corners(t: &mut Tally) {
+    t.phase("corners");
+    let mut g = Rng::new(0xC0EE5);
+    for choice in 0..12 {
+        let (kernel, kind) = (choice % 3, choice / 3);
+        // A leverage that overflows leaves a NaN in AICc: large predictors.
+        for scale in [1e70, 1e75, 1e77, 1e100, 1e150, 1e153] {
+            for _ in 0..6 {
+                let mut job = random(&mut g, 5, 3, kernel, kind);
+                let x: Vec<f64> = (0..15).map(|_| (g.unit() - 0.5) * scale).collect();
+                job.x = bytes(&x);
+                t.fit(&job);
+            }
+        }
+        // An infinite pivot can leave a finite inverse.
+        for at in 0..6 {
+            for large in [1e200, -1e200] {
+                let mut job = random(&mut g, 6, 1, kernel, kind);
+                let mut x = [0.0; 6];
+                x[at] = large;
+                job.x = bytes(&x);
+                t.fit(&job);
+            }
+        }
+        // Distances that are infinite.
+        for n in 2..6u64 {
+            let mut job = random(&mut g, n, 1, kernel, kind);
+            let coords: Vec<f64> = (0..2 * n)
+                .map(|_| g.pick(&[1e308, -1e308, 0.0, 1e154]))
+                .collect();
+            job.coords = bytes(&coords);
+            t.fit(&job);
+        }
+        // Equal scores in a search: responses all the same, so that every fit is perfect or fails.
+        for n in 2..8u64 {
+            let mut job = random(&mut g, n, 0, kernel, kind);
+            job.y = bytes(&vec![4.0; n as usize]);
+            t.fit(&job);
+        }
+    }
+}
+
+/// The weight call over distances and bandwidths with every special value.
+pub fn weights(t: &mut Tally) {
+    t.phase("weights");
+    let mut values = vec![
+        0.0,
+        5e-324,
+        f64::MIN_POSITIVE,
+        f64::MIN_POSITIVE.next_down(),
+        f64::EPSILON,
+        1e-300,
+        1e-8,
+        0.5,
+        1.0f64.next_down(),
+        1.0,
+        1.0f64.next_up(),
+        2.0,
+        37.6,
+        37.63,
+        707.9,
+        708.0,
+        708.0f64.next_up(),
+        709.0,
+        745.2,
+        1e8,
+        1e154,
+        1.4e154,
+        1e300,
+        f64::MAX,
+        f64::INFINITY,
+        f64::NAN,
+        f64::from_bits(0x7FF0_0000_0000_0001),
+    ];
+    let mut g = Rng::new(0x3E167);
+    for _ in 0..48 {
+        values.push(g.unit() * 40.0);
+        values.push(f64::from_bits(g.bits()));
+    }
+    let bits: Vec<u64> = values
+        .iter()
+        .flat_map(|v| [v.to_bits(), v.to_bits() ^ (1 << 63)])
+        .collect();
+    for kernel in [0, 1, 2, 3, u64::MAX] {
+        // An unknown kernel is refused whatever the numbers are: a few will do.
+        let bandwidths = if kernel > 2 { &bits[..4] } else { &bits[..] };
+        for &d in &bits {
+            for &b in bandwidths {
+                t.weight(kernel, d, b, 8);
+            }
+            for room in [0, 1, 7, 9, 16] {
+                t.weight(kernel, d, 1.0f64.to_bits(), room);
+            }
+        }
+    }
+}

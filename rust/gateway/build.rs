@@ -1,0 +1,88 @@
+//! Links target/staticlib/libgateway.a of the repository. Where it is missing, or older than the sources of the crates in it,
+//! `rt staticlib gateway` proves them and writes it.
+
+use std::path::{Path, PathBuf};
+use std::process::{self, Command};
+use std::time::SystemTime;
+use std::{env, fs};
+
+fn stop(message: &str) -> ! {
+    println!("cargo::error={message}");
+    process::exit(1);
+}
+
+/// The crates that gateway is made of, by the lines `NAME: DEPENDENCIES` of crates.txt.
+fn crates_of(root: &Path) -> Vec<String> {
+    let text = fs::read_to_string(root.join("crates.txt")).unwrap_or_default();
+    let mut wanted = vec!["gateway".to_string()];
+    let mut next = 0;
+    while let Some(name) = wanted.get(next).cloned() {
+        next += 1;
+        let line = text
+            .lines()
+            .find_map(|l| l.strip_prefix(name.as_str())?.strip_prefix(':'));
+        for dependency in line.unwrap_or_default().split_whitespace() {
+            if !wanted.iter().any(|w| w == dependency) {
+                wanted.push(dependency.to_string());
+            }
+        }
+    }
+    wanted
+}
+
+/// The latest change of a file below a folder.
+fn latest(folder: &Path) -> Option<SystemTime> {
+    let entries = fs::read_dir(folder).ok()?.flatten();
+    entries
+        .filter_map(|e| match e.file_type().ok()?.is_dir() {
+            true => latest(&e.path()),
+            false => e.metadata().ok()?.modified().ok(),
+        })
+        .max()
+}
+
+fn main() {
+    let package = PathBuf::from(env::var_os("CARGO_MANIFEST_DIR").expect("cargo sets it"));
+    let Some(root) = package.ancestors().nth(2) else {
+        stop("the package is not in rust/ of the repository");
+    };
+    let folder = root.join("target/staticlib");
+    let archive = folder.join("libgateway.a");
+    println!("cargo::rerun-if-changed=build.rs");
+    println!("cargo::rerun-if-changed={}", archive.display());
+    let mut newest = None;
+    for name in crates_of(root) {
+        for part in ["src", "specs", "proofs"] {
+            let sources = root.join("crates").join(&name).join(part);
+            if sources.is_dir() {
+                println!("cargo::rerun-if-changed={}", sources.display());
+                newest = newest.max(latest(&sources));
+            }
+        }
+    }
+    let built = fs::metadata(&archive).and_then(|m| m.modified()).ok();
+    if built.is_none() || built < newest {
+        match Command::new("rt")
+            .args(["staticlib", "gateway"])
+            .current_dir(root)
+            .output()
+        {
+            Err(_) => stop(
+                "target/staticlib/libgateway.a is missing or old, and so is the Rattle toolchain that makes it: no command rt",
+            ),
+            Ok(out) if !out.status.success() => {
+                for line in String::from_utf8_lossy(&out.stdout).lines().rev().take(5) {
+                    println!("cargo::warning={line}");
+                }
+                stop("rt staticlib gateway failed; run it in the repository to see why");
+            }
+            Ok(_) => {}
+        }
+    }
+    if !archive.is_file() {
+        stop("rt staticlib gateway wrote no target/staticlib/libgateway.a");
+    }
+    println!("cargo::rustc-link-search=native={}", folder.display());
+    println!("cargo::rustc-link-lib=static=gateway");
+    println!("cargo::rustc-env=GATEWAY_ARCHIVE={}", archive.display());
+}

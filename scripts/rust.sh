@@ -1,0 +1,47 @@
+#!/usr/bin/env bash
+# The Rust side: layout, lints, tests, and the comparison with 000. Its last line is 'N passed, M failed'; the comparison counts
+# as one, and as failed where 000 is not at hand. Run it after the proofs: it links what they wrote.
+set -u
+cd "$(dirname "$0")/../rust" || exit 2
+passed=0
+failed=0
+
+note() { # note STATUS NAME
+    if [ "$1" -eq 0 ]; then passed=$((passed + 1)); else failed=$((failed + 1)); echo "FAILED: $2"; fi
+}
+
+verdict() {
+    echo "$passed passed, $failed failed"
+    [ "$failed" -eq 0 ]
+    exit
+}
+
+if ! command -v cargo >/dev/null; then
+    note 1 "no command cargo: the Rust tests and the comparison with 000 did not run"
+    verdict
+fi
+export CARGO_TERM_COLOR=never
+
+if cargo fmt --version >/dev/null 2>&1; then
+    cargo fmt --check >/dev/null
+    note $? "cargo fmt --check"
+fi
+if cargo clippy --version >/dev/null 2>&1; then
+    cargo clippy --offline --quiet --release --all-targets -- -D warnings
+    note $? "cargo clippy"
+fi
+
+log=$(mktemp)
+trap 'rm -f "$log"' EXIT
+cargo test --offline --release --no-fail-fast 2>&1 | tee "$log" | grep -E '^(test result|test .*FAILED|error)'
+status=${PIPESTATUS[0]}
+# Each test counts, by the lines 'test result: ok. 9 passed; 0 failed; ..'.
+while read -r good bad; do
+    passed=$((passed + good))
+    failed=$((failed + bad))
+done < <(sed -n 's/^test result: .* \([0-9]*\) passed; \([0-9]*\) failed;.*/\1 \2/p' "$log")
+note "$status" "cargo test"
+
+cargo run --offline --release --quiet --package compare
+note $? "comparison with 000"
+verdict
