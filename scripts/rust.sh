@@ -1,6 +1,6 @@
 #!/usr/bin/env bash
 # The Rust side: layout, lints, tests, and the comparison with 000. Its last line is 'N passed, M failed'; the comparison counts
-# as one, and as failed where 000 is not at hand. Run it after the proofs: it links what they wrote.
+# as one, and not at all where 000 is not at hand, which it says in one line. Run it after the proofs: it links what they wrote.
 set -u
 cd "$(dirname "$0")/../rust" || exit 2
 passed=0
@@ -43,5 +43,7 @@ done < <(sed -n 's/^test result: .* \([0-9]*\) passed; \([0-9]*\) failed;.*/\1 \
 note "$status" "cargo test"
 
 cargo run --offline --release --quiet --package compare
-note $? "comparison with 000"
+status=$?
+# 3: the source of 000 is missing, and the comparison has said so.
+[ "$status" -eq 3 ] || note "$status" "comparison with 000"
 verdict
