@@ -1,22 +1,17 @@
 -- The point that the golden section finds is that of the earliest trial whose score is at most that of every trial.
-use mathlib.Core.Path.{_≡_, refl, sym, ap, subst, subst⁻¹, _∙_}
-use mathlib.Core.List.{List, [], _∷_, _++_, append-assoc}
+use mathlib.Core.Path.{_≡_, refl, ap, subst, subst⁻¹, _∙_}
+use mathlib.Core.List.{List, [], _∷_, _++_, append-assoc, append-nil}
 use mathlib.Core.Bool.{Bool, true, false, cond, not}
 use mathlib.Core.Logic.{_⊎_, inl, inr}
-use Prim.Native.Nat.{ℕ, zero, suc, _+_, _-_}
-use native.Mathlib.Omega.{arith}
+use Prim.Native.Nat.{ℕ, zero, suc}
 use lib.Dec.{T, T-not}
-use lib.Ieee.{Float, lt, le, isNan}
-use Rattle.real.specs.Fold.{turns, range}
+use lib.Ieee.{Float, binary64, lt, le, isNan, ofBits}
+use Rattle.real.specs.Reals.{magnitude}
 use Rattle.real.proofs.SignedOrder.{le-tr, le-total, lt→le, nlt→le}
-use Rattle.normal.specs.Data.{Data}
-use Rattle.golden.specs.declared.Bracket.{Bracket}
-use Rattle.golden.specs.Golden.{startOf, firstOf, secondOf, aimOf, improvedOf, narrowOf, goesLeft}
-use Rattle.plan.specs.declared.GwrOptions.{GwrOptions}
-use Rattle.gwr.specs.declared.Search.{Search}
-use Rattle.gwr.proofs.Literal.{apart, score-num}
-use Rattle.gwr.specs.Search.{trialOf, roundWith, roundOf, openedOf, goldenOf}
-use Rattle.claims.specs.Whole.{Scored, scoredAt, afterRounds, triedOf, All, Least, Earliest}
+use Rattle.gwr.specs.declared.Trial.{Trial}
+use Rattle.gwr.specs.Search.{Variables, loopBody, loopFor, beforeLoop}
+use Rattle.gwr.proofs.Literal.{apart, lesser-is}
+use Rattle.claims.specs.Whole.{Scored, triedIn, loopTrials, goldenTrials, All, Least, Earliest}
 
 -- ---- lists
 
@@ -101,62 +96,76 @@ no-better t w l n e k =
       num = k .num;
     }
 
-abbrev pub bestOf : Bracket → Scored
-bestOf g = record { point = g .best; score = g .low }
+-- ---- the loop
 
-narrow-kept : (g : Bracket) (s : Float) (l : List Scored) → Num s → Kept (bestOf g) l → Kept (bestOf (narrowOf g s)) (l ++ (record { point = aimOf g; score = s } ∷ []))
-unfolding narrowOf improvedOf
-narrow-kept g s l n k = go (goesLeft g) (lt s (g .low)) refl refl
-  where
-    w : Scored
-    w = record { point = aimOf g; score = s }
+abbrev pub bestOf : Variables → Scored
+bestOf v = record { point = v .bestX; score = v .bestF }
 
-    go : (b c : Bool) → goesLeft g ≡ b → lt s (g .low) ≡ c → Kept (bestOf (narrowOf g s)) (l ++ (w ∷ []))
-    go true true e f = rw (e, f) (better (bestOf g) w l n f k)
-    go false true e f = rw (e, f) (better (bestOf g) w l n f k)
-    go true false e f = rw (e, f) (no-better (bestOf g) w l n f k)
-    go false false e f = rw (e, f) (no-better (bestOf g) w l n f k)
+-- after one trial more, at x
+abbrev improved : (Float → Trial) → Variables → Float → Scored
+improved f v x = record { point = cond (lt (f x .score) (v .bestF)) x (v .bestX); score = cond (lt (f x .score) (v .bestF)) (f x .score) (v .bestF) }
 
-two-kept : (g : Bracket) (x y : Float) → Num x → Num y → Kept (bestOf (secondOf (firstOf g x) y)) (record { point = g .c; score = x } ∷ record { point = g .d; score = y } ∷ [])
-unfolding secondOf
-two-kept g x y n o = go (le x y) refl (le-total x y n o)
-  where
-    u : Scored
-    u = record { point = g .c; score = x }
-
-    v : Scored
-    v = record { point = g .d; score = y }
-
-    go : (b : Bool) → le x y ≡ b → T (le x y) ⊎ T (le y x) → Kept (bestOf (secondOf (firstOf g x) y)) (u ∷ v ∷ [])
-    go true e z = rw e (record { before = []; behind = v ∷ []; place = refl; least = (self x n, (holds e, tt)); worse = tt; num = n })
-    go false e (inl h) = absurd (T-not (le x y) (fails e) h)
-    go false e (inr h) = rw e (record { before = u ∷ []; behind = []; place = refl; least = (h, (self y o, tt)); worse = (T-not (le x y) (fails e), tt); num = o })
-
--- ---- the rounds
-
-module _ (d : Data) (o : GwrOptions) (lo hi : Float) where
-  trial-num : (point : Float) → Num (trialOf d o point .score)
-  unfolding trialOf
-  trial-num point = score-num _
-
-  round-kept : (k : ℕ) (s : Search) (l : List Scored) → Kept (bestOf (s .bracket)) l
-      → Kept (bestOf (roundOf d o k s .bracket)) (cond (s .over) l (l ++ (scoredAt d o (aimOf (s .bracket)) ∷ [])))
-  unfolding roundOf
-  round-kept k s l h = go (s .over)
+module _ (f : Float → Trial) (num : (x : Float) → Num (f x .score)) where
+  improved-kept : (v : Variables) (x : Float) (l : List Scored) → Kept (bestOf v) l → Kept (improved f v x) (l ++ (record { point = x; score = f x .score } ∷ []))
+  improved-kept v x l k = go (lt (f x .score) (v .bestF)) refl
     where
-      go : (b : Bool) → Kept (bestOf (cond b s (roundWith s (trialOf d o (aimOf (s .bracket)))) .bracket)) (cond b l (l ++ (scoredAt d o (aimOf (s .bracket)) ∷ [])))
-      go true = h
-      go false = narrow-kept (s .bracket) _ l (trial-num (aimOf (s .bracket))) h
+      w : Scored
+      w = record { point = x; score = f x .score }
 
-  next : (r : ℕ) → afterRounds d o lo hi (suc r) ≡ roundOf d o (0 + (r - 0)) (afterRounds d o lo hi r)
-  unfolding range turns
-  next r = let e : suc r - 0 ≡ suc (r - 0) = omega arith in rw e
+      go : (b : Bool) → lt (f x .score) (v .bestF) ≡ b → Kept (record { point = cond b x (v .bestX); score = cond b (f x .score) (v .bestF) }) (l ++ (w ∷ []))
+      go true e = better (bestOf v) w l (num x) e k
+      go false e = no-better (bestOf v) w l (num x) e k
 
-  rounds-kept : (r : ℕ) → Kept (bestOf (afterRounds d o lo hi r .bracket)) (triedOf d o lo hi r)
-  unfolding triedOf
-  rounds-kept zero = unfold openedOf range turns in two-kept (startOf lo hi) _ _ (trial-num (startOf lo hi .c)) (trial-num (startOf lo hi .d))
-  rounds-kept (suc r) = rw next (round-kept _ _ _ (rounds-kept r))
+  body-kept : (v : Variables) (l : List Scored) → Kept (bestOf v) l → Kept (bestOf (loopBody f v)) (l ++ (triedIn f v ∷ []))
+  unfolding loopBody
+  body-kept v l k = go (lt (v .fc) (v .fd)) refl
+    where
+      go : (b : Bool) → lt (v .fc) (v .fd) ≡ b → Kept (bestOf (loopBody f v)) (l ++ (triedIn f v ∷ []))
+      go true e = rw e (improved-kept v _ l k)
+      go false e = rw e (improved-kept v _ l k)
 
-  pub golden-best : Earliest (bestOf (goldenOf d o lo hi .bracket)) (triedOf d o lo hi 100)
-  unfolding goldenOf
-  golden-best = kept-earliest _ _ (rounds-kept 100)
+  loop-kept : (k : ℕ) (v : Variables) (l : List Scored) → Kept (bestOf v) l → Kept (bestOf (loopFor f k v)) (l ++ loopTrials f k v)
+  unfolding loopFor loopTrials
+  loop-kept zero v l h = rw append-nil h
+  loop-kept (suc k) v l h = go (le (magnitude (w .h)) (ofBits binary64 0x3CB0_0000_0000_0000)) (loop-kept k w (l ++ (triedIn f v ∷ [])) one)
+    where
+      w : Variables
+      w = loopBody f v
+
+      one : Kept (bestOf w) (l ++ (triedIn f v ∷ []))
+      one = body-kept v l h
+
+      go : (b : Bool) → Kept (bestOf (loopFor f k w)) ((l ++ (triedIn f v ∷ [])) ++ loopTrials f k w)
+          → Kept (bestOf (cond b w (loopFor f k w))) (l ++ (triedIn f v ∷ cond b [] (loopTrials f k w)))
+      go true r = one
+      go false r = rw append-assoc at r
+
+  two-kept : (lo hi : Float) → let v = beforeLoop f lo hi in Kept (bestOf v) (record { point = v .c; score = v .fc } ∷ record { point = v .d; score = v .fd } ∷ [])
+  two-kept lo hi = rw (lesser-is x y (num _) (num _)) (go (le x y) refl (le-total x y (num _) (num _)))
+    where
+      c : Float
+      c = beforeLoop f lo hi .c
+
+      d : Float
+      d = beforeLoop f lo hi .d
+
+      x : Float
+      x = f c .score
+
+      y : Float
+      y = f d .score
+
+      u : Scored
+      u = record { point = c; score = x }
+
+      v : Scored
+      v = record { point = d; score = y }
+
+      go : (b : Bool) → le x y ≡ b → T (le x y) ⊎ T (le y x) → Kept (record { point = cond b c d; score = cond b x y }) (u ∷ v ∷ [])
+      go true e z = record { before = []; behind = v ∷ []; place = refl; least = (self x (num c), (holds e, tt)); worse = tt; num = num c }
+      go false e (inl h) = absurd (T-not (le x y) (fails e) h)
+      go false e (inr h) = record { before = u ∷ []; behind = []; place = refl; least = (h, (self y (num d), tt)); worse = (T-not (le x y) (fails e), tt); num = num d }
+
+  pub golden-best : (lo hi : Float) → Earliest (bestOf (loopFor f 100 (beforeLoop f lo hi))) (goldenTrials f lo hi)
+  unfolding goldenTrials
+  golden-best lo hi = kept-earliest _ _ (loop-kept 100 (beforeLoop f lo hi) _ (two-kept lo hi))

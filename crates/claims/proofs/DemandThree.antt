@@ -1,15 +1,13 @@
--- Demand 3: a single claim about every list of turns on an accepted job.
+-- Demand 3 holds of every list of turns on every accepted job: `demand-three`, at the end.
 use mathlib.Core.Path.{_≡_, refl, sym, ap, subst, subst⁻¹, _∙_}
-use mathlib.Core.Bool.{Bool, true, false}
-use mathlib.Core.List.{List, [], _∷_}
-use mathlib.Core.Logic.{_↔_}
-use Prim.Native.Nat.{ℕ, _+_, _*_, _-_, _/_, _≤_, _<_, min}
+use mathlib.Core.Bool.{true}
+use mathlib.Core.List.{List}
+use Prim.Native.Nat.{ℕ, _+_, _*_, _-_, _≤_, _<_, min}
 use native.Mathlib.Omega.{arith}
 use borrow.Author.Tests.{le-leb, leb-true}
 use lib.Dec.{leb}
-use lib.ListN.{length, drop}
+use lib.ListN.{length}
 use lib.Ieee.{Float}
-use Rattle.refusal.specs.declared.Refusal.the-variants.{UnfitRecord}
 use Rattle.neighbours.specs.declared.GwrBandwidth.{GwrBandwidth}
 use Rattle.normal.specs.Data.{Data}
 use Rattle.plan.specs.declared.GwrOptions.{GwrOptions}
@@ -17,86 +15,59 @@ use Rattle.plan.specs.declared.Plan.{Plan}
 use Rattle.plan.specs.declared.Plan.the-variants as plan
 use Rattle.plan.specs.Plan.{acceptOf, bandwidthAt}
 use Rattle.gwr.specs.declared.Fit.{Fit}
-use Rattle.gwr.specs.Fit.{planned, finalOf, jobData, fitOf}
-use Rattle.job.specs.declared.Setup.{Setup}
-use Rattle.job.specs.declared.Job.{Job}
-use Rattle.job.specs.declared.Answer.{Answer}
-use Rattle.job.specs.declared.Answer.the-variants as answer
+use Rattle.gwr.specs.Search.{trialOf, Variables}
+use Rattle.gwr.specs.Fit.{finalOf, fitOf}
+use Rattle.gwr.proofs.Literal.{trial-num, loop-literal, sought-literal}
 use Rattle.job.specs.declared.Beginning.the-variants as beginning
-use Rattle.job.specs.Step.{stepOf, overOf}
-use Rattle.job.specs.Run.{steps}
+use Rattle.job.specs.Step.{overOf}
 use Rattle.job.specs.Turn.{setupOf, begunWith, beginOf, answerAt}
-use Rattle.claims.specs.Whole.{countOf, endedWith, finalBandwidth, searchSolves, Scored, trialsOf, All, Earliest}
-use Rattle.claims.specs.Turns.{State, Result, Turn, settled, unwrittenFrom, play, AllLawful, granted, owed}
-use Rattle.claims.proofs.Leading.{Leads, leads-on}
-use Rattle.claims.proofs.Fitting.{Ends, plan-ends, plan-final}
+use Rattle.claims.specs.Whole.{endedWith, finalBandwidth, searchSolves, Scored, trialsOf, Earliest}
+use Rattle.claims.specs.Claim as claim
+use Rattle.claims.specs.Turns.{State, Turn, settled, play, AllLawful, granted}
+use Rattle.claims.proofs.Leading.{leads-on}
+use Rattle.claims.proofs.Fitting.{foundBandwidth, foundSolves, plan-ends, plan-final}
 use Rattle.claims.proofs.Holding.{Holds, holds-steps}
-use Rattle.claims.proofs.Starting.{Started, started, lent-passes}
-use Rattle.claims.proofs.Playing.{Played, played, over-is}
+use Rattle.claims.proofs.Starting.{started, lent-passes}
+use Rattle.claims.proofs.Playing.{played, over-is}
 use Rattle.claims.proofs.Rising.{steps-solves, few-solves, stays}
 use Rattle.claims.proofs.Untouched.{Untouched, steps-untouched}
-use Rattle.claims.proofs.Best.{bestOf, golden-best}
+use Rattle.claims.proofs.Best.{golden-best}
 
--- a job: its data, its options and the output that it is lent
 module _ (coords x y : List Float) (p : ℕ) (o : GwrOptions) (out : List Float) where
-  -- n observations
-  abbrev pub n : ℕ
-  n = length coords / 2
+  abbrev n : ℕ
+  n = claim.n coords x y p o out
 
-  abbrev pub data' : Data
-  data' = jobData coords x y p
+  abbrev ownData : Data
+  ownData = claim.ownData coords x y p o out
 
-  -- the uninterrupted fit, and its solve count
-  abbrev pub whole : Fit × List Float
-  whole = fitOf coords x y p o out
+  abbrev whole : Fit × List Float
+  whole = claim.whole coords x y p o out
 
-  abbrev pub count : ℕ
-  count = countOf (whole .0 .answer)
+  abbrev count : ℕ
+  count = claim.count coords x y p o out
 
-  -- the bandwidth of its final fit, and its trials
-  abbrev pub bandwidth : GwrBandwidth
-  bandwidth = finalBandwidth (acceptOf coords x y p o (length out)) data' o
+  abbrev begun : State
+  begun = claim.begun coords x y p o out
 
-  abbrev pub trials : List Scored
-  trials = trialsOf (acceptOf coords x y p o (length out)) data' o
+  abbrev after : ℕ → State
+  after = claim.after coords x y p o out
 
-  -- the record that beginning gave, and the state of k steps from there
-  abbrev pub begun : State
-  begun = (beginOf coords x y p o (length out) .job, out)
-
-  abbrev pub after : ℕ → State
-  after k = steps (stepOf data') k begun
-
-  -- what is owed of a list of turns: s is the state after it, rs what each gave back, G the sum of the allowances, a refused turn's left out
-  pub record DemandThree (ts : List Turn) (s : State) (rs : List Result) (G : ℕ) : Type 0 where
-    -- record and written rows are those of so many steps from beginning: the smaller of the solve count and the sum
-    pub state : s ≡ after (min count G)
-    -- a turn alters no other number of its output: those from the first unwritten row on are as they were lent
-    pub untouched : let from = unwrittenFrom (s .0 .stage) (s .0 .location) * (p + 4) in drop from (s .1) ≡ drop from out
-    pub long : length (s .1) ≡ length out
-    -- each turn's answer, steps, record and output, refused turns altering nothing
-    pub results : rs ≡ owed n p after count (endedWith (whole .0 .answer)) 0 ts
-    -- 19 never comes
-    pub never-unfit : All (λ (r : Result). r .0 .answer ≡ answer.Refused UnfitRecord → ⊥) rs
-    -- the job has ended exactly when the allowances sum to at least the solve count
-    pub finishes : (overOf s ≡ true) ↔ (count ≤ G)
-    -- then rows, summary and any refusal are those of the uninterrupted fit
-    pub rows : count ≤ G → s .1 ≡ whole .1
-    pub summary : count ≤ G → answerAt (s .0 .stage) (s .0 .bandwidth) (s .0 .solves) ≡ endedWith (whole .0 .answer)
-    -- the solves counted in the record
-    pub solves : s .0 .solves ≡ min count G
-    pub bound : count ≤ 103 * n
-    -- in the final fit and after it, the record's bandwidth is that of the uninterrupted fit's final fit
-    pub settles : settled (s .0 .stage) ≡ true → s .0 .bandwidth ≡ bandwidth
-    pub final : whole ≡ finalOf data' o bandwidth (searchSolves (acceptOf coords x y p o (length out)) data' o) out
-    -- where trials were made, it is that of the earliest trial whose score is at most that of every other
-    pub best : 0 < length trials → (t : Scored) × Earliest t trials × (bandwidth ≡ bandwidthAt (o .bandwidth) (t .point) n p)
-
-  earliest : (q : Plan) → 0 < length (trialsOf q data' o)
-      → (t : Scored) × Earliest t (trialsOf q data' o) × (finalBandwidth q data' o ≡ bandwidthAt (o .bandwidth) (t .point) n p)
+  earliest : (q : Plan) → 0 < length (trialsOf q ownData o)
+      → (t : Scored) × Earliest t (trialsOf q ownData o) × (foundBandwidth q ownData o ≡ bandwidthAt (o .bandwidth) (t .point) n p)
   earliest (plan.Refused r) h = absurd (omega arith)
   earliest (plan.Settled b) h = absurd (omega arith)
-  earliest (plan.Sought lo hi) h = (_, golden-best data' o lo hi, refl)
+  earliest (plan.Sought lo hi) h =
+      let f = trialOf ownData o in
+      (_, golden-best f (trial-num ownData o) lo hi, ap (λ (v : Variables). bandwidthAt (o .bandwidth) (v .bestX) n p) (loop-literal ownData o lo hi))
+
+  -- the search is `golden_section_min`
+  same : (q : Plan) → acceptOf coords x y p o (length out) ≡ q
+      → (foundBandwidth q ownData o ≡ finalBandwidth q ownData o) × (foundSolves q ownData o ≡ searchSolves q ownData o)
+  same (plan.Refused r) e = (refl, refl)
+  same (plan.Settled b) e = (refl, refl)
+  same (plan.Sought lo hi) e =
+      let z = sought-literal coords x y p o (length out) lo hi e in
+      (ap (λ (m : Float × ℕ). bandwidthAt (o .bandwidth) (m .0) n p) z, ap (λ (m : Float × ℕ). m .1) z)
 
   unsolved : (q : Plan) → begunWith q (setupOf coords p o) .job .solves ≡ 0
   unsolved (plan.Refused r) = refl
@@ -111,7 +82,7 @@ module _ (coords x y : List Float) (p : ℕ) (o : GwrOptions) (out : List Float)
   -- every list of turns on an accepted job, with any allowances, and anything else lent where a turn is refused
   pub demand-three : beginOf coords x y p o (length out) .answer ≡ beginning.Ready → (ts : List Turn) → AllLawful coords x y ts begun →
       let r = play coords x y ts begun in
-      DemandThree ts (r .0) (r .1) (granted ts (r .1))
+      claim.DemandThree coords x y p o out ts (r .0) (r .1) (granted ts (r .1))
   unfolding beginOf fitOf
   demand-three ready ts lawful =
       let q = acceptOf coords x y p o (length out) in
@@ -122,7 +93,7 @@ module _ (coords x y : List Float) (p : ℕ) (o : GwrOptions) (out : List Float)
       let e = plan-ends coords x y u some out q ready in
       let room : n * (p + 4) ≤ length out = acc .room in
       let holds : (k : ℕ) → k ≤ count → Holds u (length out) (after k) =
-      λ k h. holds-steps data' u (length out) room k begun (st .holds) (λ i l. e .way .live i (omega arith)) in
+      λ k h. holds-steps ownData u (length out) room k begun (st .holds) (λ i l. e .way .live i (omega arith)) in
       let lent = lent-passes coords x y n p (length out) acc in
       let pl = played coords x y u (length out) count begun (e .end) (endedWith (whole .0 .answer)) (e .way) (e .over) (e .said) holds lent ts lawful in
       let G = granted ts (play coords x y ts begun .1) in
@@ -132,19 +103,23 @@ module _ (coords x y : List Float) (p : ℕ) (o : GwrOptions) (out : List Float)
         state = pl .state;
         untouched =
             subst⁻¹ (Untouched u out) (pl .state)
-            (steps-untouched data' u (length out) out room (min count G) begun (st .holds) (fresh q) (λ i l. e .way .live i (omega arith)));
+            (steps-untouched ownData u (length out) out room (min count G) begun (st .holds) (fresh q) (λ i l. e .way .live i (omega arith)));
         long = ap (λ (s : State). length (s .1)) (pl .state) ∙ holds (min count G) (omega arith) .length-is;
         results = pl .results;
         never-unfit = pl .other;
         finishes = rw (pl .state, over) (λ h. leb-true count G h, λ h. le-leb count G h);
         rows = λ h. ap (λ (s : State). s .1) (at h) ∙ e .rows;
         summary = λ h. ap (λ (s : State). answerAt (s .0 .stage) (s .0 .bandwidth) (s .0 .solves)) (at h) ∙ e .said;
-        solves = ap (λ (s : State). s .0 .solves) (pl .state) ∙ steps-solves data' (min count G) begun ∙ omega (arith, unsolved q);
+        solves = ap (λ (s : State). s .0 .solves) (pl .state) ∙ steps-solves ownData (min count G) begun ∙ omega (arith, unsolved q);
         bound = omega (arith, few-solves u (length out) (after count) (holds count (omega arith)), ap (λ (s : State). s .0 .solves) (e .way .to), e .solves);
         settles =
             λ h. ap (λ (s : State). s .0 .bandwidth) (pl .state)
-            ∙ sym (stays data' (count - min count G) (after (min count G)) (e .end) (leads-on (min count G) (omega arith) (e .way)) (subst (λ (s : State). settled (s .0 .stage) ≡ true) (pl .state) h))
-            ∙ e .bandwidth;
-        final = plan-final coords x y u some out q ready;
-        best = earliest q;
+            ∙ sym (stays ownData (count - min count G) (after (min count G)) (e .end) (leads-on (min count G) (omega arith) (e .way)) (subst (λ (s : State). settled (s .0 .stage) ≡ true) (pl .state) h))
+            ∙ e .bandwidth
+            ∙ same q refl .0;
+        final =
+            plan-final coords x y u some out q ready
+            ∙ ap (λ (b : GwrBandwidth). finalOf ownData o b (foundSolves q ownData o) out) (same q refl .0)
+            ∙ ap (λ (k : ℕ). finalOf ownData o (finalBandwidth q ownData o) k out) (same q refl .1);
+        best = λ h. let z = earliest q h in (z .0, z .1, sym (same q refl .0) ∙ z .2);
       }

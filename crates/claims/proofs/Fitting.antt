@@ -1,33 +1,32 @@
 -- From beginning, as many steps as the uninterrupted fit makes solves lead to its end.
-use mathlib.Core.Path.{_≡_, refl, sym, ap, subst, _∙_}
-use mathlib.Core.Bool.{Bool, true, false}
+use mathlib.Core.Path.{_≡_, refl, sym}
+use mathlib.Core.Bool.{true}
 use mathlib.Core.List.{List}
-use Prim.Native.Nat.{ℕ, zero, suc, _+_, _/_, _≤_}
-use native.Mathlib.Nat.{zero-add}
+use Prim.Native.Nat.{ℕ, _+_, _≤_}
 use native.Mathlib.Omega.{arith}
-use lib.ListN.{length}
 use lib.Ieee.{Float}
-use Rattle.refusal.specs.declared.Refusal.{Refusal}
 use Rattle.neighbours.specs.declared.GwrBandwidth.{GwrBandwidth}
+use Rattle.normal.specs.Data.{Data}
 use Rattle.criterion.specs.declared.Criterion.{Criterion}
 use Rattle.criterion.specs.declared.Criterion.the-variants as criterion
 use Rattle.golden.specs.declared.Bracket.{Bracket}
 use Rattle.golden.specs.Golden.{noBracket}
 use Rattle.plan.specs.declared.GwrOptions.{GwrOptions}
+use Rattle.plan.specs.Plan.{bandwidthAt}
 use Rattle.plan.specs.declared.Plan.{Plan}
 use Rattle.plan.specs.declared.Plan.the-variants as plan
-use Rattle.gwr.specs.declared.FitAnswer.{FitAnswer}
 use Rattle.gwr.specs.declared.Fit.{Fit}
 use Rattle.gwr.specs.Sweep.{sweepFinal, endingOf}
-use Rattle.gwr.specs.Fit.{answerOf, finalOf, soughtOf, planned, jobData}
-use Rattle.job.specs.declared.Stage.the-variants.{Final, Ended}
+use Rattle.gwr.specs.Search.{goldenOf}
+use Rattle.gwr.specs.Fit.{answerOf, finalOf, soughtOf, planned}
+use Rattle.job.specs.declared.Stage.the-variants.{Final}
 use Rattle.job.specs.declared.Setup.{Setup}
 use Rattle.job.specs.declared.Job.{Job}
 use Rattle.job.specs.declared.Beginning.the-variants as beginning
 use Rattle.job.specs.Step.{overOf}
 use Rattle.job.specs.Turn.{endedAnswer, answerAt, begunWith}
-use Rattle.claims.specs.Whole.{countOf, endedWith, finalBandwidth, searchSolves}
-use Rattle.claims.proofs.Leading.{Leads, leads-none, leads-then}
+use Rattle.claims.specs.Whole.{countOf, endedWith}
+use Rattle.claims.proofs.Leading.{leads-none, leads-then}
 use Rattle.claims.proofs.Sweeping.{startAt, own, Leading, swept, sweep-leads}
 use Rattle.claims.proofs.Searching.{golden-leads}
 
@@ -38,6 +37,17 @@ count-is (criterion.Refused r) b k = refl
 ended-is : (c : Criterion) (b : GwrBandwidth) (k : ℕ) → endedAnswer c b k ≡ endedWith (answerOf c b k)
 ended-is (criterion.Value v) b k = refl
 ended-is (criterion.Refused r) b k = refl
+
+-- the final fit's bandwidth, and the solves before it, by the search's bracket
+abbrev pub foundBandwidth : Plan → Data → GwrOptions → GwrBandwidth
+foundBandwidth (plan.Refused r) d o = o .bandwidth
+foundBandwidth (plan.Settled b) d o = b
+foundBandwidth (plan.Sought lo hi) d o = bandwidthAt (o .bandwidth) (goldenOf d o lo hi .bracket .best) (d .n) (d .p)
+
+abbrev pub foundSolves : Plan → Data → GwrOptions → ℕ
+foundSolves (plan.Refused r) d o = 0
+foundSolves (plan.Settled b) d o = 0
+foundSolves (plan.Sought lo hi) d o = goldenOf d o lo hi .solves
 
 module _ (coords x y : List Float) (u : Setup) where
   -- the end of a job that began so, whose uninterrupted fit is f with the bandwidth b
@@ -71,7 +81,7 @@ module _ (coords x y : List Float) (u : Setup) where
 
     -- the whole fit, by its plan
     pub plan-ends : (q : Plan) → begunWith q u .answer ≡ beginning.Ready
-        → Ends (begunWith q u .job, out) (planned q (own coords x y u) (u .options) out) (finalBandwidth q (own coords x y u) (u .options))
+        → Ends (begunWith q u .job, out) (planned q (own coords x y u) (u .options) out) (foundBandwidth q (own coords x y u) (u .options))
     unfolding soughtOf
     plan-ends (plan.Refused r) h = let z : _≡_ {A = ℕ} 0 1 = cc in absurd (omega arith)
     plan-ends (plan.Settled b) h = final-ends _ noBracket b 0 0 (leads-none _)
@@ -79,7 +89,7 @@ module _ (coords x y : List Float) (u : Setup) where
 
     -- the fit is a final fit at that bandwidth, after the search's solves
     pub plan-final : (q : Plan) → begunWith q u .answer ≡ beginning.Ready
-        → planned q (own coords x y u) (u .options) out ≡ finalOf (own coords x y u) (u .options) (finalBandwidth q (own coords x y u) (u .options)) (searchSolves q (own coords x y u) (u .options)) out
+        → planned q (own coords x y u) (u .options) out ≡ finalOf (own coords x y u) (u .options) (foundBandwidth q (own coords x y u) (u .options)) (foundSolves q (own coords x y u) (u .options)) out
     unfolding soughtOf
     plan-final (plan.Refused r) h = let z : _≡_ {A = ℕ} 0 1 = cc in absurd (omega arith)
     plan-final (plan.Settled b) h = refl

@@ -1,15 +1,14 @@
 -- On the way from beginning to the end every record is fit, and the output keeps its length: 19, and 21 or 13 for the job's own things, never come.
-use mathlib.Core.Path.{_≡_, refl, sym, ap, subst, subst⁻¹, _∙_}
-use mathlib.Core.Bool.{Bool, true, false, cond, not, _&&_}
+use mathlib.Core.Path.{_≡_, refl, sym, subst, subst⁻¹, _∙_}
+use mathlib.Core.Bool.{Bool, true, false}
 use mathlib.Core.List.{List}
-use Prim.Native.Nat.{ℕ, zero, suc, _+_, _*_, _/_, _≤_, _<_}
+use Prim.Native.Nat.{ℕ, zero, suc, _+_, _*_, _≤_, _<_}
 use native.Mathlib.Omega.{arith}
-use borrow.Author.Tests.{eq-eqb, le-leb, lt-ltb}
-use lib.Dec.{eqb, leb, ltb}
+use borrow.Author.Tests.{le-leb, lt-ltb}
+use lib.Dec.{eqb}
 use lib.ListN.{length}
 use lib.Ieee.{Float}
 use Rattle.normal.specs.Data.{Data}
-use Rattle.local.specs.declared.Values.{Values}
 use Rattle.local.specs.declared.Outcome.{Outcome}
 use Rattle.local.specs.declared.Outcome.the-variants as outcome
 use Rattle.local.proofs.Rows.{put-long}
@@ -23,15 +22,9 @@ use Rattle.job.specs.declared.Setup.{Setup}
 use Rattle.job.specs.declared.Job.{Job}
 use Rattle.job.specs.Step.{nextSweep, lastRound, closeAt, closeOf, addedJob, movedJob, advanceOf, countedJob, afterSolve, solveOf, stepJob, writeAt, stepOut, stepOf, endedAt, overOf}
 use Rattle.job.specs.Run.{steps}
-use Rattle.job.specs.Fitness.{sizesFit, kindsFit, trialsFit, endedSolve, solvesFit, isFit, Sized, Sound}
-use Rattle.job.proofs.Keeping.{Kept, step-kept}
-
-either : (P : Job → Type 0) (b : Bool) (x y : Job) → P x → P y → P (cond b x y)
-either P true x y f g = f
-either P false x y f g = g
-
-never : {A : Type 0} → false ≡ true → A
-never h = let z : _≡_ {A = ℕ} 0 1 = cc in absurd (omega arith)
+use Rattle.job.specs.Fitness.{sizesFit, trialsFit, endedSolve, solvesFit, isFit, Sized, Sound}
+use Rattle.job.proofs.Keeping.{step-kept}
+use Rattle.claims.proofs.Cases.{either, never}
 
 -- sound as it is, ended or not
 abbrev pub Held : Job → Type 0

@@ -1,3 +1,4 @@
+pub mod Cases
 pub mod Leading
 pub mod Sweeping
 pub mod Searching

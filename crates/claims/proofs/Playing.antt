@@ -1,19 +1,17 @@
 -- A list of turns, from a job of which N steps lead to the end: each gives back what is owed.
 use mathlib.Core.Path.{_≡_, refl, sym, ap, subst, subst⁻¹, _∙_}
-use mathlib.Core.Bool.{Bool, true, false, cond, not, _&&_}
-use mathlib.Core.List.{List, [], _∷_, _++_}
-use mathlib.Core.Logic.{_↔_}
-use Prim.Native.Nat.{ℕ, zero, suc, _+_, _*_, _-_, _≤_, _<_, min}
+use mathlib.Core.Bool.{Bool, true, false, cond, not}
+use mathlib.Core.List.{List, [], _∷_}
+use Prim.Native.Nat.{ℕ, _+_, _-_, _≤_, _<_, min}
 use native.Mathlib.Nat.{add-zero, add-assoc, zero-add}
 use native.Mathlib.Omega.{arith}
-use borrow.Author.Tests.{le-leb, lt-leb, leb-true}
+use borrow.Author.Tests.{leb-true}
 use lib.Dec.{T, leb, nleb→lt}
 use lib.ListN.{length}
 use lib.Ieee.{Float}
 use Rattle.refusal.specs.declared.Refusal.{Refusal}
 use Rattle.refusal.specs.declared.Refusal.the-variants.{UnfitRecord, AlreadyEnded, LengthsDiffer, ResponseNotFinite, CoordinateNotFinite, PredictorNotFinite, OutputTooShort}
 use Rattle.neighbours.specs.declared.GwrBandwidth.{GwrBandwidth}
-use Rattle.criterion.specs.declared.Criterion.{Criterion}
 use Rattle.criterion.specs.declared.Criterion.the-variants as criterion
 use Rattle.plan.specs.declared.Check.{Check}
 use Rattle.plan.specs.declared.Check.the-variants as check
@@ -21,22 +19,18 @@ use Rattle.plan.specs.Checks.{judge, valueTests, finiteTests, roomTests}
 use Rattle.job.specs.declared.Stage.{Stage}
 use Rattle.job.specs.declared.Stage.the-variants.{First, Second, Round, Final, Ended}
 use Rattle.job.specs.declared.Setup.{Setup}
-use Rattle.job.specs.declared.Job.{Job}
 use Rattle.job.specs.declared.Answer.{Answer}
 use Rattle.job.specs.declared.Answer.the-variants as answer
-use Rattle.job.specs.declared.Turned.{Turned}
 use Rattle.job.specs.Step.{lentData, stepOf, endedAt, overOf}
 use Rattle.job.specs.Run.{steps, run}
-use Rattle.job.specs.Turn.{lentTests, turnTests, answerAt, tellOf, ranOf, runOf, refusedTurn, turnWith, turnOf}
+use Rattle.job.specs.Turn.{lentTests, answerAt, ranOf, runOf, refusedTurn, turnWith, turnOf}
 use Rattle.job.specs.Fitness.{isFit}
 use Rattle.job.proofs.Judging.{turn-ended, turn-lent}
 use Rattle.claims.specs.Whole.{All}
-use Rattle.claims.specs.Turns.{State, Result, Lent, own, other, Turn, resultOf, stateAfter, play, Lawful, AllLawful, spent, granted, stateAt, turned, lentOut, otherTurn, due, owed}
+use Rattle.claims.specs.Turns.{State, Result, Lent, own, other, Turn, resultOf, stateAfter, play, Lawful, AllLawful, spent, granted, turned, otherTurn, due, owed}
+use Rattle.claims.proofs.Cases.{never}
 use Rattle.claims.proofs.Leading.{Leads, leads-on, run-leads, steps-add}
-use Rattle.claims.proofs.Holding.{Held, Holds, held-fit}
-
-never : {A : Type 0} → false ≡ true → A
-never h = let z : _≡_ {A = ℕ} 0 1 = cc in absurd (omega arith)
+use Rattle.claims.proofs.Holding.{Holds, held-fit}
 
 -- ---- what a turn that is not refused answers
 

@@ -1,17 +1,15 @@
 -- Solves rise by one with each step, and from the final fit on the bandwidth stays.
 use mathlib.Core.Path.{_≡_, refl, sym, ap, subst, subst⁻¹, _∙_}
-use mathlib.Core.Bool.{Bool, true, false, cond}
-use mathlib.Core.List.{List}
-use Prim.Native.Nat.{ℕ, zero, suc, _+_, _*_, _-_, _≤_, _<_}
+use mathlib.Core.Bool.{true, false}
+use Prim.Native.Nat.{ℕ, zero, suc, _+_, _*_, _≤_}
 use native.Mathlib.Nat.{mul-le-mul}
 use native.Mathlib.Omega.{arith}
 use lib.Dec.{eqb}
-use lib.Ieee.{Float}
 use Rattle.normal.specs.Data.{Data}
 use Rattle.local.specs.declared.Outcome.{Outcome}
 use Rattle.local.specs.declared.Outcome.the-variants as outcome
 use Rattle.criterion.specs.declared.Criterion.{Criterion}
-use Rattle.criterion.specs.Aicc.{correctedAic, scoreOf}
+use Rattle.criterion.specs.Aicc.{scoreOf}
 use Rattle.golden.specs.Golden.{narrowOf}
 use Rattle.job.specs.declared.Stage.{Stage}
 use Rattle.job.specs.declared.Stage.the-variants.{First, Second, Round, Final, Ended}
@@ -19,18 +17,11 @@ use Rattle.job.specs.declared.Setup.{Setup}
 use Rattle.job.specs.declared.Job.{Job}
 use Rattle.job.specs.Step.{lastRound, closeAt, closeOf, addedJob, advanceOf, countedJob, afterSolve, solveOf, stepJob, stepOf, endedAt, overOf}
 use Rattle.job.specs.Run.{steps}
-use Rattle.job.specs.Fitness.{Sound}
 use Rattle.job.proofs.Records.{trials-few, ended-few}
 use Rattle.claims.specs.Turns.{State, settled}
-use Rattle.claims.proofs.Leading.{Leads, leads-on}
-use Rattle.claims.proofs.Holding.{Held, Holds}
-
-either : (P : Job → Type 0) (b : Bool) (x y : Job) → P x → P y → P (cond b x y)
-either P true x y f g = f
-either P false x y f g = g
-
-never : {A : Type 0} → false ≡ true → A
-never h = let z : _≡_ {A = ℕ} 0 1 = cc in absurd (omega arith)
+use Rattle.claims.proofs.Cases.{either, never}
+use Rattle.claims.proofs.Leading.{Leads}
+use Rattle.claims.proofs.Holding.{Holds}
 
 -- ---- solves
 

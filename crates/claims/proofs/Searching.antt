@@ -1,29 +1,27 @@
 -- The golden section of the uninterrupted fit is as many steps of the job as its trials make solves.
-use mathlib.Core.Path.{_≡_, refl, sym, ap, subst, _∙_}
-use mathlib.Core.Bool.{Bool, true, false, cond, _||_}
+use mathlib.Core.Path.{_≡_, refl, subst}
+use mathlib.Core.Bool.{Bool, true, false}
 use mathlib.Core.List.{List}
-use Prim.Native.Nat.{ℕ, zero, suc, _+_, _-_, _≤_, _<_}
-use native.Mathlib.Nat.{zero-add, add-zero}
+use Prim.Native.Nat.{ℕ, zero, suc, _+_, _≤_, _<_}
+use native.Mathlib.Nat.{zero-add}
 use native.Mathlib.Numerals.{add-one}
 use native.Mathlib.Omega.{arith}
-use borrow.Author.Tests.{eq-eqb, ne-eqb}
+use borrow.Author.Tests.{ne-eqb}
 use lib.Dec.{eqb}
 use lib.Ieee.{Float}
 use Rattle.real.specs.Fold.{turns, range}
 use Rattle.neighbours.specs.declared.GwrBandwidth.{GwrBandwidth}
-use Rattle.criterion.specs.Aicc.{scoreOf}
 use Rattle.golden.specs.declared.Bracket.{Bracket}
 use Rattle.golden.specs.Golden.{startOf, firstOf, secondOf, aimOf, narrowOf, tightOf}
 use Rattle.plan.specs.Plan.{bandwidthAt}
 use Rattle.gwr.specs.declared.Search.{Search}
 use Rattle.gwr.specs.declared.Trial.{Trial}
-use Rattle.gwr.specs.Sweep.{sweepOf, endingOf}
-use Rattle.gwr.specs.Search.{trialOf, roundWith, roundOf, openedOf, goldenOf}
+use Rattle.gwr.specs.Search.{trialOf, roundOf, openedOf, goldenOf}
 use Rattle.job.specs.declared.Stage.the-variants.{First, Second, Round, Final}
 use Rattle.job.specs.declared.Setup.{Setup}
 use Rattle.job.specs.declared.Job.{Job}
 use Rattle.job.specs.Step.{lastRound}
-use Rattle.claims.proofs.Leading.{Leads, leads-none, leads-then}
+use Rattle.claims.proofs.Leading.{leads-then}
 use Rattle.claims.proofs.Sweeping.{startAt, own, Leading, sweep-leads, final-sweep}
 
 module _ (coords x y : List Float) (u : Setup) (some : 1 ≤ u .n) (out : List Float) where

@@ -1,14 +1,13 @@
 -- What beginning gives where it answers Ready: a state that holds, and data and output that no turn refuses.
-use mathlib.Core.Path.{_≡_, refl, sym, ap, subst, _∙_}
-use mathlib.Core.Bool.{Bool, true, false, cond, not, _&&_}
-use mathlib.Core.List.{List, [], _∷_, _++_}
-use Prim.Native.Nat.{ℕ, _+_, _*_, _/_, _≤_, _<_}
+use mathlib.Core.Path.{_≡_, refl, subst}
+use mathlib.Core.Bool.{true}
+use mathlib.Core.List.{List}
+use Prim.Native.Nat.{ℕ, _+_, _*_, _/_}
 use native.Mathlib.Omega.{arith}
 use borrow.Author.Tests.{eq-eqb, le-leb, le-ltb}
 use lib.Dec.{leb}
 use lib.ListN.{length}
 use lib.Ieee.{Float, le}
-use Rattle.real.specs.Reals.{zero64}
 use Rattle.neighbours.specs.declared.GwrBandwidth.{GwrBandwidth}
 use Rattle.neighbours.specs.declared.GwrBandwidth.the-variants.{Fixed, AdaptiveKnn}
 use Rattle.neighbours.specs.Bandwidth.{Usable}
@@ -20,17 +19,17 @@ use Rattle.plan.specs.declared.Plan.the-variants as plan
 use Rattle.plan.specs.declared.GwrOptions.{GwrOptions}
 use Rattle.plan.specs.Checks.{judge, inputTests, finiteTests, valueTests, roomTests}
 use Rattle.plan.specs.Plan.{greatestDistance, leastDistance, usableDistance, leastCount, greatestCount, distancePlan, rangePlan, countPlan, bandwidthAt, givenPlan, searchPlan, planOf, after, acceptOf}
-use Rattle.plan.specs.Shape.{Shaped, Accepted}
+use Rattle.plan.specs.Shape.{Accepted}
 use Rattle.plan.proofs.Acceptance.{settled-accepted, sought-accepted, bandwidth-usable}
 use Rattle.job.specs.declared.Stage.{Stage}
 use Rattle.job.specs.declared.Stage.the-variants.{First, Final}
 use Rattle.job.specs.declared.Setup.{Setup}
-use Rattle.job.specs.declared.Job.{Job}
 use Rattle.job.specs.declared.Beginning.the-variants as beginning
 use Rattle.job.specs.Step.{freshJob}
 use Rattle.job.specs.Fitness.{kindsFit, trialsFit, Sized, Sound}
 use Rattle.job.specs.Turn.{setupOf, begunWith, lengthsFit, lentTests}
-use Rattle.claims.proofs.Holding.{Held, Holds}
+use Rattle.claims.proofs.Cases.{either}
+use Rattle.claims.proofs.Holding.{Holds}
 
 -- ---- the bandwidth is of the options' kind
 
@@ -57,23 +56,19 @@ PlanLike kind (plan.Settled b) = Like kind b
 PlanLike kind (plan.Sought lo hi) = Unit {0}
 PlanLike kind (plan.Refused r) = Unit {0}
 
-either : (kind : GwrBandwidth) (b : Bool) (q s : Plan) → PlanLike kind q → PlanLike kind s → PlanLike kind (cond b q s)
-either kind true q s h k = h
-either kind false q s h k = k
-
 plan-like : (coords : List Float) (n p : ℕ) (o : GwrOptions) → PlanLike (o .bandwidth) (planOf coords n p o)
 unfolding planOf searchPlan givenPlan rangePlan distancePlan countPlan
-plan-like coords n p o = either (o .bandwidth) (o .«optimize_bandwidth») _ _ (sought (o .bandwidth)) (given (o .bandwidth))
+plan-like coords n p o = either (PlanLike (o .bandwidth)) (o .«optimize_bandwidth») _ _ (sought (o .bandwidth)) (given (o .bandwidth))
   where
     hi : Float
     hi = greatestDistance coords n
 
     sought : (w : GwrBandwidth) → PlanLike w (searchPlan coords n p w)
-    sought (Fixed b) = either (Fixed b) (usableDistance hi) _ _ (either (Fixed b) (le hi (leastDistance hi n)) _ _ tt tt) tt
-    sought (AdaptiveKnn k) = either (AdaptiveKnn k) (leb (greatestCount n p) (leastCount p)) _ _ tt tt
+    sought (Fixed b) = either (PlanLike (Fixed b)) (usableDistance hi) _ _ (either (PlanLike (Fixed b)) (le hi (leastDistance hi n)) _ _ tt tt) tt
+    sought (AdaptiveKnn k) = either (PlanLike (AdaptiveKnn k)) (leb (greatestCount n p) (leastCount p)) _ _ tt tt
 
     given : (w : GwrBandwidth) → PlanLike w (givenPlan w n)
-    given (Fixed b) = either (Fixed b) (usableDistance b) _ _ tt tt
+    given (Fixed b) = either (PlanLike (Fixed b)) (usableDistance b) _ _ tt tt
     given (AdaptiveKnn k) = tt
 
 after-like : (kind : GwrBandwidth) (k : Check) (q : Plan) → PlanLike kind q → PlanLike kind (after k q)

@@ -1,13 +1,12 @@
 -- A sweep of the uninterrupted fit is as many steps of the job as it makes solves.
-use mathlib.Core.Path.{_≡_, refl, sym, ap, subst, _∙_}
-use mathlib.Core.Bool.{Bool, true, false, cond}
+use mathlib.Core.Path.{_≡_, refl, ap, subst, _∙_}
+use mathlib.Core.Bool.{false}
 use mathlib.Core.List.{List}
 use Prim.Native.Nat.{ℕ, zero, suc, _+_, _-_, _≤_, _<_}
 use native.Mathlib.Nat.{zero-add, add-zero}
 use native.Mathlib.Numerals.{add-one}
 use native.Mathlib.Omega.{arith}
 use borrow.Author.Tests.{eq-eqb, ne-eqb}
-use lib.Dec.{eqb}
 use lib.Ieee.{Float, binary64, add, mul}
 use Rattle.real.specs.Fold.{turns, range}
 use Rattle.real.specs.Reals.{zero64}
@@ -24,13 +23,12 @@ use Rattle.golden.specs.declared.Bracket.{Bracket}
 use Rattle.gwr.specs.declared.Course.{Course}
 use Rattle.gwr.specs.declared.Course.the-variants.{Going, Stopped}
 use Rattle.gwr.specs.declared.Sweep.{Sweep}
-use Rattle.gwr.specs.Sweep.{newSweep, addOf, stopOf, afterOf, visitAt, visitOf, sweepOf, endingOf, writeOf, rowAt, visitFinal, sweepFinal}
+use Rattle.gwr.specs.Sweep.{newSweep, addOf, stopOf, afterOf, visitOf, sweepOf, endingOf, writeOf, visitFinal, sweepFinal}
 use Rattle.job.specs.declared.Stage.{Stage}
 use Rattle.job.specs.declared.Stage.the-variants.{First, Second, Round, Final, Ended}
 use Rattle.job.specs.declared.Setup.{Setup}
 use Rattle.job.specs.declared.Job.{Job}
-use Rattle.job.specs.Step.{lentData, closeAt, closeOf, advanceOf, afterSolve, countedJob, addedJob, movedJob, stepJob, writeAt, stepOut, stepOf, endedAt, overOf}
-use Rattle.job.specs.Run.{steps}
+use Rattle.job.specs.Step.{lentData, closeAt, closeOf, advanceOf, afterSolve, stepJob, writeAt, stepOut, stepOf, endedAt, overOf}
 use Rattle.claims.proofs.Leading.{Leads, leads-none, leads-one, leads-then}
 
 -- the output at a stage: only the final fit's is the one with rows written

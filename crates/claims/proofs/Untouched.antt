@@ -1,6 +1,6 @@
 -- A step alters no number of the output but those of the row that it writes.
-use mathlib.Core.Path.{_≡_, refl, sym, ap, subst, subst⁻¹, _∙_}
-use mathlib.Core.Bool.{Bool, true, false, cond}
+use mathlib.Core.Path.{_≡_, refl, sym, subst, subst⁻¹, _∙_}
+use mathlib.Core.Bool.{false}
 use mathlib.Core.List.{List, _++_, append-assoc}
 use Prim.Native.Nat.{ℕ, zero, suc, _+_, _*_, _≤_, _<_}
 use native.Mathlib.Nat.{suc-mul}
@@ -29,14 +29,8 @@ use Rattle.job.specs.Step.{lastRound, closeAt, closeOf, addedJob, advanceOf, co
 use Rattle.job.specs.Run.{steps}
 use Rattle.job.specs.Fitness.{Sized}
 use Rattle.claims.specs.Turns.{State, unwrittenFrom}
+use Rattle.claims.proofs.Cases.{either, never}
 use Rattle.claims.proofs.Holding.{Holds, holds-step}
-
-either : (P : Job → Type 0) (b : Bool) (x y : Job) → P x → P y → P (cond b x y)
-either P true x y f g = f
-either P false x y f g = g
-
-never : {A : Type 0} → false ≡ true → A
-never h = let z : _≡_ {A = ℕ} 0 1 = cc in absurd (omega arith)
 
 next-row : (i k : ℕ) → (i + 1) * k ≡ i * k + k
 next-row i k = rw (add-one, suc-mul)

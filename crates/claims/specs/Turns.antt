@@ -118,7 +118,7 @@ module _ (n p : ℕ) (so : ℕ → State) (count : ℕ) (ended : Answer) where
   lentOut own G = stateAt G .1
   lentOut (other coords x y out) G = out
 
-  -- 01: 21 lengths other than the record's n and p say, then 8, 9, 10, 13
+  -- 01: 21 lengths other than the record's n and p say, then 8, 9, 10, 13; a lending that passes these is refused only after the end
   abbrev pub otherTurn : Check → List Float → ℕ → Result
   otherTurn (check.Refused r) out G = refusedTurn r (stateAt G .0) out
   otherTurn check.Pass out G = refusedTurn AlreadyEnded (stateAt G .0) out

@@ -4,19 +4,18 @@ use mathlib.Core.Path.{_≡_}
 use mathlib.Core.Bool.{cond}
 use mathlib.Core.List.{List, [], _∷_, _++_}
 use lib.Dec.{T}
-use lib.Ieee.{Float, le}
-use Rattle.real.specs.Fold.{range}
+use lib.Ieee.{Float, binary64, lt, le, ofBits}
+use Rattle.real.specs.Reals.{magnitude}
 use Rattle.neighbours.specs.declared.GwrBandwidth.{GwrBandwidth}
 use Rattle.normal.specs.Data.{Data}
-use Rattle.golden.specs.Golden.{startOf, aimOf}
 use Rattle.plan.specs.declared.GwrOptions.{GwrOptions}
 use Rattle.plan.specs.declared.Plan.{Plan}
 use Rattle.plan.specs.declared.Plan.the-variants as plan
 use Rattle.plan.specs.Plan.{bandwidthAt}
-use Rattle.gwr.specs.declared.Search.{Search}
+use Rattle.gwr.specs.declared.Trial.{Trial}
 use Rattle.gwr.specs.declared.FitAnswer.{FitAnswer}
 use Rattle.gwr.specs.declared.FitAnswer.the-variants as fit
-use Rattle.gwr.specs.Search.{trialOf, roundOf, openedOf, goldenOf}
+use Rattle.gwr.specs.Search.{trialOf, Variables, loopBody, beforeLoop, goldenSectionMin}
 use Rattle.job.specs.declared.Answer.{Answer}
 use Rattle.job.specs.declared.Answer.the-variants as answer
 
@@ -36,13 +35,13 @@ endedWith (fit.Rejected r) = answer.Refused r
 abbrev pub finalBandwidth : Plan → Data → GwrOptions → GwrBandwidth
 finalBandwidth (plan.Refused r) d o = o .bandwidth
 finalBandwidth (plan.Settled b) d o = b
-finalBandwidth (plan.Sought lo hi) d o = bandwidthAt (o .bandwidth) (goldenOf d o lo hi .bracket .best) (d .n) (d .p)
+finalBandwidth (plan.Sought lo hi) d o = bandwidthAt (o .bandwidth) (goldenSectionMin (trialOf d o) lo hi .0) (d .n) (d .p)
 
 -- the solves made before the final fit
 abbrev pub searchSolves : Plan → Data → GwrOptions → ℕ
 searchSolves (plan.Refused r) d o = 0
 searchSolves (plan.Settled b) d o = 0
-searchSolves (plan.Sought lo hi) d o = goldenOf d o lo hi .solves
+searchSolves (plan.Sought lo hi) d o = goldenSectionMin (trialOf d o) lo hi .1
 
 -- ---- the trials of a search, in their order
 
@@ -51,26 +50,30 @@ pub record Scored : Type 0 where
   pub point : Float
   pub score : Float
 
-abbrev pub scoredAt : Data → GwrOptions → Float → Scored
-scoredAt d o point = record { point = point; score = trialOf d o point .score }
+-- the trial that a round of 000's loop makes from the variables v: at its new c, or at its new d
+abbrev pub triedIn : (Float → Trial) → Variables → Scored
+triedIn f v =
+    let w = loopBody f v in
+    cond (lt (v .fc) (v .fd)) (record { point = w .c; score = w .fc }) (record { point = w .d; score = w .fd })
 
--- the search after r rounds of `for _ in 0..100`
-abbrev pub afterRounds : Data → GwrOptions → Float → Float → ℕ → Search
-afterRounds d o lo hi r = range (roundOf d o) 0 r (openedOf d o (startOf lo hi))
+-- those of the loop with k rounds to go, until it is left
+unfoldable pub loopTrials : (Float → Trial) → ℕ → Variables → List Scored
+loopTrials f zero v = []
+loopTrials f (suc k) v =
+    let w = loopBody f v in
+    triedIn f v ∷ cond (le (magnitude (w .h)) (ofBits binary64 0x3CB0_0000_0000_0000)) [] (loopTrials f k w)
 
--- 01: trial 1 is c, trial 2 is d; then each round's, until the loop is left
-unfoldable pub triedOf : Data → GwrOptions → Float → Float → ℕ → List Scored
-triedOf d o lo hi zero = scoredAt d o (startOf lo hi .c) ∷ scoredAt d o (startOf lo hi .d) ∷ []
-triedOf d o lo hi (suc r) =
-    let s = afterRounds d o lo hi r in
-    let l = triedOf d o lo hi r in
-    cond (s .over) l (l ++ (scoredAt d o (aimOf (s .bracket)) ∷ []))
+-- those of `golden_section_min` from lo to hi: c, d, then the loop's
+unfoldable pub goldenTrials : (Float → Trial) → Float → Float → List Scored
+goldenTrials f lo hi =
+    let v = beforeLoop f lo hi in
+    record { point = v .c; score = v .fc } ∷ record { point = v .d; score = v .fd } ∷ loopTrials f 100 v
 
 -- every trial that the fit makes
 abbrev pub trialsOf : Plan → Data → GwrOptions → List Scored
 trialsOf (plan.Refused r) d o = []
 trialsOf (plan.Settled b) d o = []
-trialsOf (plan.Sought lo hi) d o = triedOf d o lo hi 100
+trialsOf (plan.Sought lo hi) d o = goldenTrials (trialOf d o) lo hi
 
 -- P of each
 abbrev pub All : {A : Type 0} → (A → Type 0) → List A → Type 0

@@ -1,25 +1,25 @@
 -- The search is `golden_section_min` as 000 has it, variable by variable.
-use mathlib.Core.Path.{_≡_, refl, sym, ap, subst, subst⁻¹, _∙_}
+use mathlib.Core.Path.{_≡_, refl, ap, subst, subst⁻¹, _∙_}
 use mathlib.Core.List.{List}
 use mathlib.Core.Bool.{Bool, true, false, cond, not}
-use Prim.Native.Nat.{ℕ, zero, suc, _+_, _-_, _/_, _^_, _≤_, _<_}
+use Prim.Native.Nat.{ℕ, zero, suc, _+_, _/_, _^_, _≤_, _<_}
 use native.Mathlib.Omega.{arith}
 use lib.Dec.{T, T-not, leb, le→leb, nleb→lt}
 use lib.ListN.{length}
 use lib.IntN.{pos}
-use lib.Ieee.{Float, nan, inf, fin, binary64, add, sub, mul, lt, le, isNan, round, ofInt, toUnsigned, inFloat}
+use lib.Ieee.{Float, nan, inf, fin, binary64, lt, le, isNan, round, ofInt, toUnsigned, inFloat}
 use lib.Ieee.Order.{round-mono}
 use lib.Ieee.Back.{unsigned-back}
 use lib.Ieee.Scale.{finite}
 use Rattle.real.specs.Fold.{turns, range}
-use Rattle.real.specs.Reals.{magnitude, lesser}
+use Rattle.real.specs.Reals.{lesser}
 use Rattle.real.proofs.SignedOrder.{natural, sgn-natural, in-fin, round-sgn, toUnsigned-mono, lt-not-le, nlt→le}
 use Rattle.normal.specs.Data.{Data}
 use Rattle.criterion.specs.declared.Criterion.{Criterion}
 use Rattle.criterion.specs.declared.Criterion.the-variants as criterion
 use Rattle.criterion.specs.Aicc.{scoreOf}
 use Rattle.golden.specs.declared.Bracket.{Bracket}
-use Rattle.golden.specs.Golden.{invPhi, invPhi2, G, G2, startOf, secondOf, aimOf, improvedOf, narrowOf, tightOf}
+use Rattle.golden.specs.Golden.{startOf, secondOf, aimOf, narrowOf, tightOf}
 use Rattle.golden.proofs.Round.{G-is, G2-is, round-000, round-is}
 use Rattle.neighbours.specs.declared.GwrBandwidth.{GwrBandwidth}
 use Rattle.neighbours.specs.declared.GwrBandwidth.the-variants.{Fixed, AdaptiveKnn}
@@ -29,12 +29,12 @@ use Rattle.plan.specs.declared.GwrOptions.{GwrOptions}
 use Rattle.plan.specs.declared.Plan.{Plan}
 use Rattle.plan.specs.declared.Plan.the-variants as plan
 use Rattle.plan.specs.Checks.{judge, inputTests}
-use Rattle.plan.specs.Plan.{greatestDistance, leastDistance, usableDistance, leastCount, greatestCount, distancePlan, rangePlan, countPlan, givenPlan, searchPlan, planOf, after, acceptOf}
+use Rattle.plan.specs.Plan.{greatestDistance, leastDistance, usableDistance, leastCount, greatestCount, distancePlan, rangePlan, countPlan, bandwidthAt, givenPlan, searchPlan, planOf, after, acceptOf}
 use Rattle.plan.proofs.Acceptance.{sought-accepted}
 use Rattle.gwr.specs.declared.Search.{Search}
 use Rattle.gwr.specs.declared.Trial.{Trial}
-use Rattle.gwr.specs.Fit.{jobData}
-use Rattle.gwr.specs.Search.{trialOf, roundWith, roundOf, openedOf, goldenOf, Variables, loopBody, loopFor, beforeLoop, goldenSectionMin}
+use Rattle.gwr.specs.Fit.{finalOf, soughtOf, planned, jobData, fitOf}
+use Rattle.gwr.specs.Search.{trialOf, roundOf, openedOf, goldenOf, Variables, loopBody, loopFor, beforeLoop, goldenSectionMin}
 
 -- what is strictly below is not above
 pub apart : (x y : Float) → T (lt x y) → T (le y x) → ⊥
@@ -60,7 +60,7 @@ score-num (criterion.Value (fin s m e)) = tt
 score-num (criterion.Refused r) = tt
 
 -- `fc.min(fd)` is fc where fc ≤ fd, else fd
-lesser-is : (x y : Float) → T (not (isNan x)) → T (not (isNan y)) → lesser x y ≡ cond (le x y) x y
+pub lesser-is : (x y : Float) → T (not (isNan x)) → T (not (isNan y)) → lesser x y ≡ cond (le x y) x y
 unfolding lesser
 lesser-is x y n m = go (lt y x) (le x y) refl refl
   where
@@ -120,7 +120,7 @@ module _ (d : Data) (o : GwrOptions) where
       let w = narrowOf g (t .score) in
       rw (front, ← body-is score g n) (goes k w (n + t .solves) (tightOf w) (loop-is k w (n + t .solves)))
 
-  trial-num : (point : Float) → T (not (isNan (score point .score)))
+  pub trial-num : (point : Float) → T (not (isNan (score point .score)))
   unfolding trialOf
   trial-num point = score-num _
 
@@ -209,3 +209,14 @@ sought-literal coords x y p o out lo hi e =
     let s = sought-accepted coords x y p o out lo hi e .shaped in
     golden-literal (jobData coords x y p) o lo hi
     (subst Apart e (after-apart (judge (inputTests coords x y p out)) (planOf coords (length coords / 2) p o) (plan-apart coords (length coords / 2) p o (s .few) (s .narrow))))
+
+-- so the fit of a searched job is 000's: a final fit at the point that `golden_section_min` finds
+pub fit-literal : (coords x y : List Float) (p : ℕ) (o : GwrOptions) (out : List Float) (lo hi : Float) → acceptOf coords x y p o (length out) ≡ plan.Sought lo hi →
+    let d = jobData coords x y p in
+    let m = goldenSectionMin (trialOf d o) lo hi in
+    fitOf coords x y p o out ≡ finalOf d o (bandwidthAt (o .bandwidth) (m .0) (d .n) (d .p)) (m .1) out
+unfolding fitOf soughtOf
+fit-literal coords x y p o out lo hi e =
+    let d = jobData coords x y p in
+    ap (λ (q : Plan). planned q d o out) e
+    ∙ ap (λ (m : Float × ℕ). finalOf d o (bandwidthAt (o .bandwidth) (m .0) (d .n) (d .p)) (m .1) out) (sought-literal coords x y p o (length out) lo hi e)
