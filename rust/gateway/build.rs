@@ -6,9 +6,10 @@ use std::process::{self, Command};
 use std::time::SystemTime;
 use std::{env, fs};
 
+/// Has cargo show this one line and fail the build: a status other than 0 would show all that was printed here.
 fn stop(message: &str) -> ! {
     println!("cargo::error={message}");
-    process::exit(1);
+    process::exit(0);
 }
 
 /// The crates that gateway is made of, by the lines `NAME: DEPENDENCIES` of crates.txt.
@@ -68,7 +69,7 @@ fn main() {
             .output()
         {
             Err(_) => stop(
-                "target/staticlib/libgateway.a is missing or old, and so is the Rattle toolchain that makes it: no command rt",
+                "target/staticlib/libgateway.a is missing or old, and the Rattle toolchain that makes it is not there: no command rt",
             ),
             Ok(out) if !out.status.success() => {
                 for line in String::from_utf8_lossy(&out.stdout).lines().rev().take(5) {

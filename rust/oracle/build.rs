@@ -51,6 +51,12 @@ fn source() -> Option<PathBuf> {
         .find(|file| file.is_file())
 }
 
+/// Has cargo show this one line and fail the build: a status other than 0 would show all that was printed here.
+fn stop(message: &str) -> ! {
+    println!("cargo::error={message}");
+    process::exit(0);
+}
+
 fn main() {
     println!("cargo::rerun-if-changed=build.rs");
     println!("cargo::rustc-check-cfg=cfg(gwr_source)");
@@ -63,19 +69,15 @@ fn main() {
     println!("cargo::rerun-if-changed={}", file.display());
     let mut text = match fs::read_to_string(&file) {
         Ok(text) => text,
-        Err(e) => {
-            println!("cargo::error=cannot read {}: {e}", file.display());
-            process::exit(1);
-        }
+        Err(e) => stop(&format!("cannot read {}: {e}", file.display())),
     };
     for (from, to, places) in SUBSTITUTIONS {
         let found = text.matches(from).count();
         if found != places {
-            println!(
-                "cargo::error={}: {found} places have {from:?} where {places} were expected",
+            stop(&format!(
+                "{}: {found} places have {from:?} where {places} were expected",
                 file.display()
-            );
-            process::exit(1);
+            ));
         }
         text = text.replace(from, to);
     }

@@ -74,6 +74,17 @@ pub fn random_jobs(t: &mut Tally, count: u64) {
     }
 }
 
+/// Random jobs by the safe crate.
+pub fn safe_crate(t: &mut Tally, count: u64) {
+    t.phase("safe crate");
+    let mut g = Rng::new(0x5AFE);
+    for i in 0..count {
+        let p = g.below(8);
+        let n = p + 1 + g.below(8);
+        t.safe(&random(&mut g, n, p, i % 3, i / 3 % 4));
+    }
+}
+
 /// Numbers of observations around each limit. Large ones are few, and searched only once.
 pub fn boundaries(t: &mut Tally) {
     t.phase("boundaries");

@@ -51,6 +51,8 @@ fn main() -> ExitCode {
     done("boundaries", &t);
     jobs::damaged(&mut t, 24 + count / 400);
     done("damaged", &t);
+    jobs::safe_crate(&mut t, 24 + count / 40);
+    done("safe crate", &t);
     jobs::random_jobs(&mut t, count);
     done("random", &t);
     t.clear();

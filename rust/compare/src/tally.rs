@@ -1,6 +1,7 @@
 //! Runs jobs on both sides and counts.
 
-use oracle::{Answer, FILL, Job};
+use gateway::{GwrBandwidth, GwrKernel, GwrOptions, Refusal, gwr_fit};
+use oracle::{Answer, FILL, Job, bytes, reals};
 use std::io::{IsTerminal, Write};
 use std::time::{Duration, Instant};
 
@@ -44,8 +45,48 @@ pub fn proved(job: &Job) -> Answer {
     }
 }
 
+/// What the safe crate answers to a job, as the bytes of the output and the summary.
+fn safe_answer(job: &Job) -> Result<(Vec<u8>, Vec<u8>), Refusal> {
+    let p = job.p as usize;
+    let coords: Vec<(f64, f64)> = reals(&job.coords)
+        .chunks_exact(2)
+        .map(|c| (c[0], c[1]))
+        .collect();
+    let x = reals(&job.x);
+    let x: Vec<Vec<f64>> = (0..coords.len())
+        .map(|i| x[i * p..(i + 1) * p].to_vec())
+        .collect();
+    let kernels = [
+        GwrKernel::Gaussian,
+        GwrKernel::Bisquare,
+        GwrKernel::Exponential,
+    ];
+    let options = GwrOptions {
+        kernel: kernels[job.kernel as usize],
+        bandwidth: match job.kind {
+            0 | 2 => GwrBandwidth::Fixed(f64::from_bits(job.bandwidth)),
+            _ => GwrBandwidth::AdaptiveKnn(job.bandwidth as usize),
+        },
+        optimize_bandwidth: job.kind >= 2,
+    };
+    let fit = gwr_fit(&coords, &x, &reals(&job.y), &options)?;
+    let mut out = Vec::new();
+    for i in 0..coords.len() {
+        out.extend(bytes(&fit.coefficients[i]));
+        let last = [fit.predicted[i], fit.residuals[i], fit.local_r2[i]];
+        out.extend(bytes(&last));
+    }
+    let mut summary = bytes(&[fit.bandwidth, fit.aicc]);
+    summary.extend(fit.solves.to_le_bytes());
+    Ok((out, summary))
+}
+
 /// The first place where two buffers differ.
 fn difference(name: &str, ours: &[u8], theirs: &[u8]) -> Option<String> {
+    if ours.len() != theirs.len() {
+        let (ours, theirs) = (ours.len(), theirs.len());
+        return Some(format!("{name}: {ours} bytes, expected {theirs}"));
+    }
     let at = ours.iter().zip(theirs).position(|(a, b)| a != b)?;
     let word = |s: &[u8]| -> String {
         let from = at / 8 * 8;
@@ -139,6 +180,27 @@ impl Tally {
         });
     }
 
+    /// Compares the safe crate's call, and its weights, on a job of right byte lengths and known numbers. A refused job has only
+    /// its number to compare.
+    pub fn safe(&mut self, job: &Job) {
+        let expected = job.expected();
+        let mut differences = Vec::new();
+        match safe_answer(job) {
+            Ok((out, summary)) => {
+                if expected.number != 0 {
+                    differences.push(format!("fitted, expected {}", expected.number));
+                }
+                differences.extend(difference("summary", &summary, &expected.summary));
+                differences.extend(difference("output", &out, &expected.out));
+            }
+            Err(refusal) if refusal.number() != expected.number => {
+                differences.push(format!("{refusal}, expected {}", expected.number));
+            }
+            Err(_) => {}
+        }
+        self.count(&differences, || format!("safe crate, {job:?}"));
+    }
+
     /// Compares the weight call.
     pub fn weight(&mut self, kernel: u64, d: u64, b: u64, room: usize) {
         let mut out = vec![FILL; room];
@@ -153,5 +215,47 @@ impl Tally {
         self.count(&differences, || {
             format!("kernel {kernel} d {d:016X} b {b:016X} room {room}")
         });
+    }
+}
+
+#[cfg(test)]
+mod tests {
+    use super::*;
+
+    #[test]
+    fn a_difference_is_named() {
+        let ours = [0, 0, 0, 0, 0, 0, 0xF0, 0x3F, 1, 2];
+        assert_eq!(difference("output", &ours, &ours), None);
+        let mut theirs = ours;
+        theirs[0] = 1;
+        assert_eq!(
+            difference("output", &ours, &theirs).unwrap(),
+            "output number 0: proved 3FF0000000000000, 000 3FF0000000000001"
+        );
+        theirs = ours;
+        theirs[9] = 9;
+        assert_eq!(
+            difference("summary", &ours, &theirs).unwrap(),
+            "summary number 1: proved 0201, 000 0901"
+        );
+        assert!(difference("output", &ours, &theirs[..9]).is_some());
+    }
+
+    #[test]
+    fn agreement_and_difference_are_counted() {
+        let mut t = Tally::new();
+        t.count(&[], String::new);
+        t.count(&["planted".to_string()], || "a test".to_string());
+        assert_eq!((t.passed, t.failed), (1, 1));
+    }
+
+    #[test]
+    fn the_listing_of_01_by_both_calls() {
+        let coords = [0.0, 0.0, 0.0, 0.0, 10.0, 10.0, 10.0, 10.0];
+        let choice = (1, 0, 1.0f64.to_bits());
+        let job = Job::new(&coords, &[], &[2.0, 4.0, 10.0, 10.0], 0, choice);
+        let answer = proved(&job);
+        assert_eq!(answer.number, 0);
+        assert_eq!(safe_answer(&job), Ok((answer.out, answer.summary)));
     }
 }
