@@ -138,7 +138,7 @@ impl Job {
             bracket,
             bandwidth,
             location: 0,
-            trace: 0.0,
+            trace: 0.0, // no sum of a trial outlives it, failed or not
             squares: 0.0,
             trials: self.trials + 1,
             solves: self.solves,
