@@ -1,1 +1,2 @@
 pub mod Pivoting
+pub mod Rows

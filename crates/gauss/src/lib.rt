@@ -36,113 +36,105 @@ fn find_pivot(a: &[[f64; 16]; 8], i: usize, n: usize) -> Pivot
     p
 }
 
-// Rows i and k exchanged; nothing changes where they are one.
-fn swap_rows(a: [[f64; 16]; 8], i: usize, k: usize) -> [[f64; 16]; 8]
+// Rows i and k exchanged; nothing is to do where they are one.
+fn swap_rows(a: &mut [[f64; 16]; 8], i: usize, k: usize)
     requires { ⌜ (i < 8) × (k < 8) ⌝ }
-    ensures { λ r. ⌜ r ≡ swapRows a i k ⌝ }
+    ensures { λ _. ⌜ now (a .exit) ≡ swapRows (now (a .entry)) i k ⌝ }
 {
-    let mut r = a;
-    let x = r[i];
-    let y = r[k];
-    r[i] = y;
-    r[k] = x;
-    r
+    if i == k {
+        return;
+    }
+    let x = a[i];
+    let y = a[k];
+    a[i] = y;
+    a[k] = x;
 }
 
 // The first m cells, each divided by v.
-fn div_row(row: [f64; 16], v: f64, m: usize) -> [f64; 16]
+fn div_row(row: &mut [f64; 16], v: f64, m: usize)
     requires { ⌜ m ≤ 16 ⌝ }
-    ensures { λ r. ⌜ r ≡ divRow v m row ⌝ }
+    ensures { λ _. ⌜ now (row .exit) ≡ divRow v m (now (row .entry)) ⌝ }
 {
-    let mut r = row;
     for j in 0..m {
-        r[j] = r[j] / v;
+        row[j] = row[j] / v;
     }
-    r
 }
 
 // The first m cells, each less v times the cell of `by`.
-fn less_row(row: [f64; 16], v: f64, by: [f64; 16], m: usize) -> [f64; 16]
+fn less_row(row: &mut [f64; 16], v: f64, by: &[f64; 16], m: usize)
     requires { ⌜ m ≤ 16 ⌝ }
-    ensures { λ r. ⌜ r ≡ lessRow v by m row ⌝ }
+    ensures { λ _. ⌜ now (row .exit) ≡ lessRow v (now (by .entry)) m (now (row .entry)) ⌝ }
 {
-    let mut r = row;
     for j in 0..m {
-        r[j] = r[j] - v * by[j];
+        row[j] = row[j] - v * by[j];
     }
-    r
 }
 
 // Row k less its cell i times row i, `by`; row i itself, and a row whose cell is zero, as they are.
-fn clear_row(row: [f64; 16], by: [f64; 16], k: usize, i: usize, m: usize) -> [f64; 16]
+fn clear_row(row: &mut [f64; 16], by: &[f64; 16], k: usize, i: usize, m: usize)
     requires { ⌜ (i < 8) × (m ≤ 16) ⌝ }
-    ensures { λ r. ⌜ r ≡ clearRow k i by m row ⌝ }
+    ensures { λ _. ⌜ now (row .exit) ≡ clearRow k i (now (by .entry)) m (now (row .entry)) ⌝ }
 {
     if k == i {
-        return row;
+        return;
     }
     let factor = row[i];
     if factor == 0.0 {
-        return row;
+        return;
     }
-    less_row(row, factor, by, m)
+    less_row(row, factor, by, m);
 }
 
-// Column i cleared in every row but row i.
-fn clear(a: [[f64; 16]; 8], i: usize, n: usize, m: usize) -> [[f64; 16]; 8]
+// Column i cleared in every row but row i, which stays: one copy of it serves every row.
+fn clear(a: &mut [[f64; 16]; 8], i: usize, n: usize, m: usize)
     requires { ⌜ (i < 8) × (n ≤ 8) × (m ≤ 16) ⌝ }
-    ensures { λ r. ⌜ r ≡ cleared i n m a ⌝ }
+    ensures { λ _. ⌜ now (a .exit) ≡ cleared i n m (now (a .entry)) ⌝ }
 {
-    let mut r = a;
+    let by = a[i];
     for k in 0..n {
-        let row = r[k];
-        let by = r[i];
-        r[k] = clear_row(row, by, k, i, m);
+        clear_row(&mut a[k], &by, k, i, m);
     }
-    r
 }
 
 // One step at column i with the pivot's row p: swapped into place, divided by the pivot, and the column cleared.
-fn reduce(a: [[f64; 16]; 8], i: usize, n: usize, m: usize, p: usize) -> [[f64; 16]; 8]
+fn reduce(a: &mut [[f64; 16]; 8], i: usize, n: usize, m: usize, p: usize)
     requires { ⌜ (i < n) × (n ≤ 8) × (m ≤ 16) × (p < 8) ⌝ }
-    ensures { λ r. ⌜ r ≡ reduced a i n m p ⌝ }
+    ensures { λ _. ⌜ now (a .exit) ≡ reduced (now (a .entry)) i n m p ⌝ }
 {
-    let mut s = swap_rows(a, i, p);
-    let row = s[i];
-    let v = row[i];
-    s[i] = div_row(row, v, m);
-    clear(s, i, n, m)
+    swap_rows(&mut *a, i, p);
+    let v = a[i][i];
+    div_row(&mut a[i], v, m);
+    clear(&mut *a, i, n, m);
 }
 
-// One step with its search for the pivot: `ok` says whether the pivot was large enough, and else the matrix is as it was.
-fn gauss_step(a: [[f64; 16]; 8], i: usize, n: usize, m: usize, ok: &mut bool) -> [[f64; 16]; 8]
+// One step with its search for the pivot: whether the pivot was large enough, and else the matrix is as it was.
+fn gauss_step(a: &mut [[f64; 16]; 8], i: usize, n: usize, m: usize) -> bool
     requires { ⌜ (i < n) × (n ≤ 8) × (m ≤ 16) ⌝ }
-    ensures { λ r. ⌜ (r ≡ gaussStep a i n m) × (now (ok .exit) ≡ not (lt (pivotOf a i n .val) tiny)) ⌝ }
+    ensures { λ r. ⌜ (r ≡ not (lt (pivotOf (now (a .entry)) i n .val) tiny)) × (now (a .exit) ≡ gaussStep (now (a .entry)) i n m) ⌝ }
 {
-    let p = find_pivot(&a, i, n);
+    let p = find_pivot(&*a, i, n);
     let val = p.val;
     let row = p.row;
     if val < 1e-12 {
-        *ok = false;
-        return a;
+        return false;
     }
-    *ok = true;
-    reduce(a, i, n, m, row)
+    reduce(&mut *a, i, n, m, row);
+    true
 }
 
-// The same, unless an earlier pivot was too small.
-fn gauss_try(a: [[f64; 16]; 8], i: usize, n: usize, m: usize, ok: &mut bool) -> [[f64; 16]; 8]
+// The same, unless an earlier pivot was too small, as `on` says.
+fn gauss_try(a: &mut [[f64; 16]; 8], i: usize, n: usize, m: usize, on: bool) -> bool
     requires { ⌜ (i < n) × (n ≤ 8) × (m ≤ 16) ⌝ }
-    ensures { λ r. ⌜ (now (ok .exit), r) ≡ tryStep n m i (now (ok .entry), a) ⌝ }
+    ensures { λ r. ⌜ (r, now (a .exit)) ≡ tryStep n m i (on, now (a .entry)) ⌝ }
 {
-    let on = *ok;
     if on {
-        return gauss_step(a, i, n, m, ok);
+        return gauss_step(&mut *a, i, n, m);
     }
-    a
+    false
 }
 
 // The elimination over n rows and m columns: `ok` says whether no pivot was below 1e-12, that is, the matrix is not singular.
+// Its steps work on one matrix in place.
 pub fn eliminate(a: [[f64; 16]; 8], n: usize, m: usize, ok: &mut bool) -> [[f64; 16]; 8]
     requires { ⌜ (n ≤ 8) × (m ≤ 16) ⌝ }
     ensures { λ r. ⌜ (now (ok .exit), r) ≡ eliminated a n m ⌝ }
@@ -150,8 +142,7 @@ pub fn eliminate(a: [[f64; 16]; 8], n: usize, m: usize, ok: &mut bool) -> [[f64;
     let mut r = a;
     let mut good = true;
     for i in 0..n {
-        let next = gauss_try(r, i, n, m, &mut good);
-        r = next;
+        good = gauss_try(&mut r, i, n, m, good);
     }
     *ok = good;
     r

@@ -14,6 +14,6 @@ clear-row-spec =
     (λ c. sym (rw (eq-eqb _ _ (c .if1 .taken))))
     (λ c. search needs)
     (λ c. search needs)
-    (λ c. sym (rw (ne-eqb _ _ (c .before .if1 .left), c .if2 .taken)))
+    (λ c. sym (rw (ne-eqb _ _ (c .before .before .if1 .left), c .if2 .taken)))
     (λ c κs. search needs)
-    (λ c. c .less-row .ensures ∙ sym (rw (ne-eqb _ _ (c .before .before .if1 .left), c .before .if2 .left))))
+    (λ c. c .less-row .ensures ∙ sym (rw (ne-eqb _ _ (c .before .before .before .before .if1 .left), c .before .before .if2 .left))))

@@ -8,10 +8,10 @@ use Rattle.gauss.proofs.div_row.Statement.{statement}
 use Rattle.gauss.proofs.div_row.Tie as tie
 
 abbrev Inv-loop : tie.InvT-loop
-Inv-loop v m r₀ j₀ r j = Range (divStep v) r₀ 0 m j r
+Inv-loop row₀ v m j₀ row j = Range (divStep v) row₀ 0 m j row
 
 abbrev μ-loop : tie.MeasureT-loop
-μ-loop v m r₀ j₀ r j = m - j
+μ-loop row₀ v m j₀ row j = m - j
 
 pub div-row-spec : {M : Type 1} → statement M
 unfolding divStep divRow
@@ -25,5 +25,5 @@ div-row-spec =
     (λ c. search needs)
     (λ c. search needs)
     (λ c. search needs)
-    (λ c. more (c .before .loop .inv) (search needs) refl)
+    (λ c. more (c .before .before .loop .inv) (search needs) refl)
     (λ c. done (c .before .loop .inv) (search needs)))

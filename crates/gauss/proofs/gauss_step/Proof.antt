@@ -14,5 +14,5 @@ gauss-step-spec =
     (tie.spec
     (λ c κs. search needs)
     (λ c. let f = c .before .find-pivot .ensures in (sym (rw (← f, c .if1 .taken)), sym (rw (← f, c .if1 .taken))))
-    (λ c κs. let s = c .before .before .before in (s .pre .0, s .pre .1, s .pre .2, rw (c .before .find-pivot .ensures) (lt-of-lt-of-le (pivot-row _ _ _ (s .pre .0)) (s .pre .1))))
-    (λ c. let f = c .before .before .find-pivot .ensures in let t = c .before .if1 .left in (c .reduce .ensures ∙ sym (rw (← f, t)), sym (rw (← f, t)))))
+    (λ c κs. let s = c .before .before .before .before in (s .pre .0, s .pre .1, s .pre .2, rw (c .before .before .find-pivot .ensures) (lt-of-lt-of-le (pivot-row _ _ _ (s .pre .0)) (s .pre .1))))
+    (λ c. let f = c .before .before .before .find-pivot .ensures in let t = c .before .before .if1 .left in (sym (rw (← f, t)), c .reduce .ensures ∙ sym (rw (← f, t)))))

@@ -12,5 +12,5 @@ gauss-try-spec =
     tie.close
     (tie.spec
     (λ c κs. search needs)
-    (λ c. ap₂ (λ (b : Bool) (x : Matrix). (b, x)) (c .gauss-step .ensures .1) (c .gauss-step .ensures .0) ∙ sym (rw (c .before .before .if1 .taken)))
+    (λ c. ap₂ (λ (b : Bool) (x : Matrix). (b, x)) (c .gauss-step .ensures .0) (c .gauss-step .ensures .1) ∙ sym (rw (c .before .before .if1 .taken)))
     (λ c. sym (rw (c .if1 .left))))

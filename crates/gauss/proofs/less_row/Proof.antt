@@ -8,10 +8,10 @@ use Rattle.gauss.proofs.less_row.Statement.{statement}
 use Rattle.gauss.proofs.less_row.Tie as tie
 
 abbrev Inv-loop : tie.InvT-loop
-Inv-loop v m by r₀ j₀ r j = Range (lessStep v by) r₀ 0 m j r
+Inv-loop row₀ v by m j₀ row j = Range (lessStep v by) row₀ 0 m j row
 
 abbrev μ-loop : tie.MeasureT-loop
-μ-loop v m by r₀ j₀ r j = m - j
+μ-loop row₀ v by m j₀ row j = m - j
 
 pub less-row-spec : {M : Type 1} → statement M
 unfolding lessStep lessRow
@@ -27,5 +27,5 @@ less-row-spec =
     (λ c. search needs)
     (λ c. search needs)
     (λ c. search needs)
-    (λ c. more (c .before .loop .inv) (search needs) refl)
+    (λ c. more (c .before .before .before .loop .inv) (search needs) refl)
     (λ c. done (c .before .loop .inv) (search needs)))
