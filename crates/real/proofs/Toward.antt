@@ -4,29 +4,29 @@
 use mathlib.Core.Path.{_≡_, refl, sym, ap, _∙_, subst}
 use mathlib.Core.Logic.{inl, inr}
 use mathlib.Core.Bool.{Bool, true, false, not, cond, true≢false, _&&_}
-use Prim.Native.Nat.{ℕ, zero, suc, _+_, _-_, _*_, _/_, _^_, _≤_, _<_, zero-le}
-use native.Mathlib.Nat.{le-refl, le-trans, le-of-eq, le-of-lt, lt-of-lt-of-le, lt-of-le-of-lt, not-le-of-lt, lt-of-not-le, zero-mul, one-mul, mul-one, mul-comm, mul-assoc, mul-left-comm, mul-right-comm, mul-le-mul-right, mul-le-mul-left, mul-lt-mul-of-pos-right, le-of-mul-le-mul-right, lt-of-mul-lt-mul-right, mul-sub, mul-pos, add-mul, div-mul-le-self, le-div-iff-mul-le, div-lt-iff-lt-mul}
+use Prim.Native.Nat.{ℕ, _+_, _-_, _*_, _/_, _^_, _≤_, _<_, zero-le}
+use native.Mathlib.Nat.{le-trans, le-of-eq, le-of-lt, lt-of-lt-of-le, lt-of-le-of-lt, not-le-of-lt, zero-mul, mul-comm, mul-assoc, mul-left-comm, mul-right-comm, mul-le-mul-right, mul-le-mul-left, mul-lt-mul-of-pos-right, le-of-mul-le-mul-right, lt-of-mul-lt-mul-right, mul-sub, mul-pos, add-mul, div-mul-le-self, le-div-iff-mul-le, div-lt-iff-lt-mul}
 use native.Mathlib.Omega.{arith}
-use lib.IntN.{ℤ, pos}
+use lib.IntN.{pos}
 use lib.Dec.{T, ltb, ltb→lt, lt→ltb, lit<}
 use lib.Pow.{pow-pos, pow-add, pow-mono}
-use lib.Ieee.{Float, nan, inf, fin, Format, binary32, binary64, prec, low, up, down, unlike, size, round, sum, add, sub, mul, neg, lt, le, fits}
+use lib.Ieee.{Float, nan, inf, fin, Format, binary32, binary64, prec, low, up, down, size, round, sum, add, sub, mul, neg, lt, le, fits}
 use lib.Ieee.Digits.{size-lt, size-reaches}
-use lib.Ieee.Fits.{down-pos, neg-fits, round-fits, sub-fits, mul-fits}
+use lib.Ieee.Fits.{down-pos, neg-fits, sub-fits}
 use lib.Ieee.Exact.{HasValue, round-exact}
 use lib.Ieee.Order.{transfer, round-mono}
 use lib.Ieee.Scale.{grid, overflow, finite, round-same, round-val, round-under}
 use lib.Ieee.Positive.{num, den, den-pos}
-use Rattle.real.proofs.SignedOrder.{P, N, SLe, SumIs, sgn, sle-of, sle-scale, sle-unscale, sle-at, le→sle, here-or-on, round-smono, sum-is, add-opened, add-mono, mul-opened, natural, nat-fin, nat-sgn, mag, round-mag, mag-nat, mag-finite, in-fin, sub-opened, neg-finite, neg-anti, round-sgn, sgn-natural, zero-of, lt-not-le, le-self}
+use Rattle.real.proofs.SignedOrder.{P, N, SLe, SumIs, sgn, sle-of, sle-scale, sle-unscale, sle-at, le→sle, here-or-on, round-smono, sum-is, add-opened, add-mono, mul-commute, mul-by, natural, nat-fin, mag, round-mag, mag-nat, mag-finite, in-fin, sub-opened, neg-finite, neg-anti, round-sgn, sgn-natural, zero-of, lt-not-le, le-self}
 use Rattle.real.proofs.Values.{round-own}
 
 -- ---- units
 
 -- x is n units in size
-abbrev pub Units : Format → Float → ℕ → Type 0
+abbrev Units : Format → Float → ℕ → Type 0
 Units f x n = num x * 2 ^ low f ≡ n * den x
 
-abbrev pub unitsOf : Format → Float → ℕ
+abbrev unitsOf : Format → Float → ℕ
 unitsOf f x = grid f (num x) (den x)
 
 value-units : (f : Format) (x : Float) (n : ℕ) → T (finite x) → HasValue (mag x) false n (2 ^ low f) → Units f x n
@@ -60,7 +60,7 @@ rounded-units f x a c p e =
     value-units f x (grid f a c) p
     (subst (λ (y : Float). HasValue y false (grid f a c) (2 ^ low f)) (sym e) (round-val f a c (round-under f a c (subst (λ (y : Float). T (finite y)) e (mag-fin x p)))))
 
-pub own-units : (f : Format) (x : Float) → T (fits f x) → T (finite x) → Units f x (unitsOf f x)
+own-units : (f : Format) (x : Float) → T (fits f x) → T (finite x) → Units f x (unitsOf f x)
 own-units f x h p = rounded-units f x (num x) (den x) p (sym (mag-own f x h p))
 
 signed-own : (f : Format) (x : Float) → T (fits f x) → T (finite x) → round f (sgn x) (num x) (den x) ≡ x
@@ -207,8 +207,8 @@ digits binary32 = lit< tt
 digits binary64 = lit< tt
 
 -- r = R / S, at most 2 / 3, of what n units round to: x / y, W units. It rounds to at most n units
-part : (f : Format) (n R S x y : ℕ) → 0 < S → 0 < y → 3 * R ≤ 2 * S → T (finite (round f false n (2 ^ low f))) → T (finite (round f false (R * x) (S * y)))
-    → x * 2 ^ low f ≡ grid f n (2 ^ low f) * y → grid f (R * x) (S * y) ≤ n
+part : (f : Format) (n R S x y : ℕ) → 0 < S → 0 < y → 3 * R ≤ 2 * S → T (finite (round f false n (2 ^ low f))) → T (finite (round f false (x * R) (y * S)))
+    → x * 2 ^ low f ≡ grid f n (2 ^ low f) * y → grid f (x * R) (y * S) ≤ n
 part f n R S x y S0 y0 third p p' e =
     let L = 2 ^ low f in
     let W = grid f n L in
@@ -223,10 +223,10 @@ part f n R S x y S0 y0 third p p' e =
     let e2 : 2 * S * (a .p * u) ≡ 2 * a .p * (S * u) = simp (mul-assoc, mul-left-comm) in
     let e3 : 3 * q * (S * u) ≡ 3 * (q * u * S) = mul-assoc 3 q (S * u) ∙ ap (λ (z : ℕ). 3 * z) (ap (λ (z : ℕ). q * z) (mul-comm S u) ∙ sym (mul-assoc q u S)) in
     let k : R * W ≤ q * u * S = omega arith in
-    let m : R * x * L ≡ R * W * y = mul-assoc R x L ∙ ap (λ (z : ℕ). R * z) e ∙ sym (mul-assoc R W y) in
+    let m : x * R * L ≡ R * W * y = mul-right-comm x R L ∙ ap (λ (z : ℕ). z * R) e ∙ mul-right-comm W y R ∙ ap (λ (z : ℕ). z * y) (mul-comm W R) in
     le-trans
-    (rounds-under f (R * x) (S * y) q (a .j) (mul-pos S0 y0) (lt-of-le-of-lt (a .lower) (digits f)) p'
-    (le-trans (le-of-eq m) (le-trans (mul-le-mul-right y k) (le-of-eq (mul-assoc (q * u) S y)))))
+    (rounds-under f (x * R) (y * S) q (a .j) (mul-pos y0 S0) (lt-of-le-of-lt (a .lower) (digits f)) p'
+    (le-trans (le-of-eq m) (le-trans (mul-le-mul-right y k) (le-of-eq (mul-assoc (q * u) S y ∙ ap (λ (z : ℕ). q * u * z) (mul-comm S y))))))
     (a .above)
 
 -- ---- the order about a + T, where T ≤ n and d = a + n, or a - T and d = a - n: Z is below a and d, or above them
@@ -241,10 +241,6 @@ way-above ζ true t true ξ Z A B n k m h g l w x = omega arith
 way-above ζ true t false ξ Z A B n k m h g l w x = omega arith
 way-above ζ false t true ξ Z A B n k m h g l w x = omega arith
 way-above ζ false t false ξ Z A B n k m h g l w x = omega arith
-
-unlike-left : (s : Bool) → unlike false s ≡ s
-unlike-left true = refl
-unlike-left false = refl
 
 -- ---- signs and sizes of d - a, n units with the sign σ
 back : (s t : Bool) (A B n : ℕ) → 0 + (N t B + N (not s) A) ≡ n + (P t B + P (not s) A) → SLe t B s A
@@ -364,28 +360,26 @@ module _ (f : Format) (r a d : Float) (fa : T (fits f a)) (fd : T (fits f d)) (n
 
   -- r (d - a) rounded is m units of the same sign
   abbrev m : ℕ
-  m = grid f (num r * num H) (den r * den H)
+  m = grid f (num H * num r) (den H * den r)
 
-  Y-is : Y ≡ round f (way .0) (num r * num H) (den r * den H)
+  Y-is : Y ≡ round f (way .0) (num H * num r) (den H * den r)
   Y-is =
-      mul-opened f r H (nat-fin r nr) nw
-      ∙ ap (λ (s : Bool). round f s (num r * num H) (den r * den H))
-      (ap (λ (s : Bool). unlike s (sgn H)) (nat-sgn r nr) ∙ unlike-left (sgn H) ∙ ap sgn (W-is f a d fa fd na nd) ∙ round-sgn f (way .0) (way .1) K)
+      mul-commute f r H (nat-fin r nr) nw
+      ∙ mul-by f H r nw nr
+      ∙ ap (λ (s : Bool). round f s (num H * num r) (den H * den r)) (ap sgn (W-is f a d fa fd na nd) ∙ round-sgn f (way .0) (way .1) K)
 
-  Y-mag : mag Y ≡ round f false (num r * num H) (den r * den H)
-  Y-mag = ap mag Y-is ∙ round-mag f (way .0) (num r * num H) (den r * den H)
+  Y-mag : mag Y ≡ round f false (num H * num r) (den H * den r)
+  Y-mag = ap mag Y-is ∙ round-mag f (way .0) (num H * num r) (den H * den r)
 
   pub toward-fin : T (finite Y)
   toward-fin =
       mag-finite Y (mag H) (mag-nat H nw)
       (subst (λ (z : Float). T (le z (mag H))) (sym Y-mag)
-      (subst (λ (z : Float). T (le (round f false (num r * num H) (den r * den H)) z)) (mag-own f H (sub-fits f d a) nw)
-      (round-mono f (num r * num H) (den r * den H) (num H) (den H) (mul-pos (den-pos r) (den-pos H)) (den-pos H) less)))
+      (subst (λ (z : Float). T (le (round f false (num H * num r) (den H * den r)) z)) (mag-own f H (sub-fits f d a) nw)
+      (round-mono f (num H * num r) (den H * den r) (num H) (den H) (mul-pos (den-pos H) (den-pos r)) (den-pos H) less)))
     where
-      less : num r * num H * den H ≤ num H * (den r * den H)
-      less =
-          let e : num H * (den r * den H) ≡ den r * num H * den H = sym (mul-assoc (num H) (den r) (den H)) ∙ ap (λ (z : ℕ). z * den H) (mul-comm (num H) (den r)) in
-          le-trans (mul-le-mul-right (den H) (mul-le-mul-right (num H) (omega arith))) (le-of-eq (sym e))
+      less : num H * num r * den H ≤ num H * (den H * den r)
+      less = le-trans (le-of-eq (mul-assoc (num H) (num r) (den H) ∙ ap (λ (z : ℕ). num H * z) (mul-comm (num r) (den H)))) (mul-le-mul-left (num H) (mul-le-mul-left (den H) (omega arith)))
 
   m-less : m ≤ way .1
   m-less =
@@ -398,8 +392,8 @@ module _ (f : Format) (r a d : Float) (fa : T (fits f a)) (fd : T (fits f d)) (n
 
   point-is : add f a Y ≡ round f (moved .0) (moved .1) K
   point-is =
-      add-units f a Y (unitsOf f a) m na toward-fin (own-units f a fa na) (rounded-units f Y (num r * num H) (den r * den H) toward-fin Y-mag)
-      ∙ ap (λ (s : Bool). sum f (sgn a) (unitsOf f a) s m K) (ap sgn Y-is ∙ round-sgn f (way .0) (num r * num H) (den r * den H))
+      add-units f a Y (unitsOf f a) m na toward-fin (own-units f a fa na) (rounded-units f Y (num H * num r) (den H * den r) toward-fin Y-mag)
+      ∙ ap (λ (s : Bool). sum f (sgn a) (unitsOf f a) s m K) (ap sgn Y-is ∙ round-sgn f (way .0) (num H * num r) (den H * den r))
       ∙ moved .2
 
   -- it is no less than any value that neither a nor d is less than
