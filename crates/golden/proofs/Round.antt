@@ -36,7 +36,7 @@ round-000 f g =
     record { a = a; b = g .b; c = c; d = d; h = h; fc = fc; fd = fd; best = cond (lt fd (g .low)) d (g .best); low = cond (lt fd (g .low)) fd (g .low) })
 
 -- the best point and its score after a trial at x, each by its own test, as 000's `if fc < best_f` has them
-improved-is : (g : Bracket) (x s : Float) → improvedOf g x s ≡ bestAt g (cond (lt s (g .low)) x (g .best)) (cond (lt s (g .low)) s (g .low))
+pub improved-is : (g : Bracket) (x s : Float) → improvedOf g x s ≡ bestAt g (cond (lt s (g .low)) x (g .best)) (cond (lt s (g .low)) s (g .low))
 unfolding improvedOf
 improved-is g x s = go (lt s (g .low)) refl
   where

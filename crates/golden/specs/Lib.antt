@@ -1,1 +1,2 @@
 pub mod Golden
+pub mod Kiefer

@@ -2,3 +2,4 @@ pub mod Fold
 pub mod SignedOrder
 pub mod Values
 pub mod Rounding
+pub mod Toward

@@ -1,0 +1,134 @@
+-- The search against the published method: J. Kiefer, Sequential minimax search for a maximum, Proc. Amer. Math. Soc. 4 (1953). Definitions; the theorems are in proofs/Kiefer.
+-- What 000 keeps of it: a bracket has two inner points with their scores. A round keeps the part about the inner point of the better score, reuses that point and its score as an
+-- inner point of the part, and makes one new trial there. The points stand at the golden section, the limit of Kiefer's Fibonacci points as the number of trials grows.
+-- Where 000 leaves it:
+-- 1. It seeks the least score, not the greatest. Where the two scores are equal, or one is NaN, it keeps the right part.
+-- 2. The new point stands at a proportion of the part, a + G2 h or a + G h. The published one is the mirror image of the reused point. As real numbers they are the same; rounded they
+--    are not. In a bracket some last places wide c can come out above d: `out-of-order` of proofs/Kiefer. Such a round can keep a part that the reused point lies outside, and the
+--    next can widen the bracket (`widens`). So a bracket lies within the one before while c ≤ d (`narrowing`), and within every bracket that held its own points always (`later-within`).
+-- 3. It makes at most 100 rounds, fewer where |h| ≤ EPS. The published number of trials follows from the accuracy that is asked.
+-- 4. Its answer is the best point tried. The published answer is the last bracket.
+-- 5. It neither asks nor tests that the score has one valley. Where it has more, the answer is still the best point tried, and nothing is said of the points between.
+use mathlib.Core.Path.{_≡_}
+use mathlib.Core.Bool.{true, false}
+use mathlib.Core.List.{List, [], _∷_}
+use mathlib.Core.Logic.{_⊎_}
+use lib.Dec.{T}
+use lib.Ieee.{Float, binary64, sub, lt, le, fits}
+use lib.Ieee.Scale.{finite}
+use Rattle.golden.specs.declared.Bracket.{Bracket}
+use Rattle.golden.specs.Golden.{startOf, firstOf, secondOf, aimOf, narrowOf}
+
+-- ---- places
+
+-- the ends of a search: finite numbers lo ≤ hi of binary64, hi - lo finite too
+pub record Span (lo hi : Float) : Type 0 where
+  pub low-held : T (fits binary64 lo)
+  pub high-held : T (fits binary64 hi)
+  pub low-finite : T (finite lo)
+  pub high-finite : T (finite hi)
+  pub order : T (le lo hi)
+  pub width : T (finite (sub binary64 hi lo))
+
+-- x is a number of binary64 from lo to hi
+pub record Inside (lo hi x : Float) : Type 0 where
+  pub held : T (fits binary64 x)
+  pub low : T (le lo x)
+  pub high : T (le x hi)
+
+-- the ends of g and its inner points lie from lo to hi
+pub record Within (lo hi : Float) (g : Bracket) : Type 0 where
+  pub a : Inside lo hi (g .a)
+  pub b : Inside lo hi (g .b)
+  pub c : Inside lo hi (g .c)
+  pub d : Inside lo hi (g .d)
+
+-- the inner points of g lie in the bracket
+pub record Framed (g : Bracket) : Type 0 where
+  pub span : Span (g .a) (g .b)
+  pub c : Inside (g .a) (g .b) (g .c)
+  pub d : Inside (g .a) (g .b) (g .d)
+
+-- c ≤ d, which holds in every bracket of the published method
+abbrev pub Ordered : Bracket → Type 0
+Ordered g = T (le (g .c) (g .d))
+
+-- ---- a round from g to k, whose trial scores s
+
+-- c scores lower: the part from a to d is kept, c and its score are reused as d, the new c is tried
+pub record KeepsLeft (g k : Bracket) (s : Float) : Type 0 where
+  pub lower : lt (g .fc) (g .fd) ≡ true
+  pub left : k .a ≡ g .a
+  pub right : k .b ≡ g .d
+  pub reused : k .d ≡ g .c
+  pub reused-score : k .fd ≡ g .fc
+  pub tried : k .c ≡ aimOf g
+  pub tried-score : k .fc ≡ s
+  pub width : k .h ≡ sub binary64 (k .b) (k .a)
+
+-- it does not: the part from c to b is kept, d and its score are reused as c, the new d is tried
+pub record KeepsRight (g k : Bracket) (s : Float) : Type 0 where
+  pub lower : lt (g .fc) (g .fd) ≡ false
+  pub left : k .a ≡ g .c
+  pub right : k .b ≡ g .b
+  pub reused : k .c ≡ g .d
+  pub reused-score : k .fc ≡ g .fd
+  pub tried : k .d ≡ aimOf g
+  pub tried-score : k .fd ≡ s
+  pub width : k .h ≡ sub binary64 (k .b) (k .a)
+
+-- a round of the published search
+abbrev pub KieferRound : Bracket → Bracket → Float → Type 0
+KieferRound g k s = KeepsLeft g k s ⊎ KeepsRight g k s
+
+-- the bracket k lies within the bracket g, and its inner points lie in it
+pub record Narrowed (g k : Bracket) : Type 0 where
+  pub left : T (le (g .a) (k .a))
+  pub right : T (le (k .b) (g .b))
+  pub framed : Framed k
+
+-- ---- a search
+
+-- the bracket from lo to hi whose inner points score s and t
+abbrev pub opened : Float → Float → Float → Float → Bracket
+opened lo hi s t = secondOf (firstOf (startOf lo hi) s) t
+
+-- the bracket after rounds whose trials score so
+unfoldable pub playedOf : Bracket → List Float → Bracket
+playedOf g [] = g
+playedOf g (s ∷ l) = playedOf (narrowOf g s) l
+
+-- the points that those rounds try
+unfoldable pub triedOf : Bracket → List Float → List Float
+triedOf g [] = []
+triedOf g (s ∷ l) = aimOf g ∷ triedOf (narrowOf g s) l
+
+-- every member
+abbrev pub Each : (Float → Type 0) → List Float → Type 0
+Each P [] = Unit
+Each P (x ∷ l) = P x × Each P l
+
+-- some member
+abbrev pub Among : Float → List Float → Type 0
+Among x [] = ⊥
+Among x (y ∷ l) = (x ≡ y) ⊎ Among x l
+
+-- the bracket of every round is ordered when the round begins
+abbrev pub Steady : Bracket → List Float → Type 0
+Steady g [] = Unit
+Steady g (s ∷ l) = Ordered g × Steady (narrowOf g s) l
+
+-- every bracket lies within the one before
+abbrev pub Narrowing : Bracket → List Float → Type 0
+Narrowing g [] = Unit
+Narrowing g (s ∷ l) = Narrowed g (narrowOf g s) × Narrowing (narrowOf g s) l
+
+-- the points of a search from lo to hi: the two of the first bracket, which score s and t, and those of its rounds
+abbrev pub pointsOf : Float → Float → Float → Float → List Float → List Float
+pointsOf lo hi s t l = startOf lo hi .c ∷ startOf lo hi .d ∷ triedOf (opened lo hi s t) l
+
+-- a search of any number of rounds: every point tried lies from lo to hi, so does the last bracket, and the answer is a point tried
+pub record Searched (lo hi s t : Float) (l : List Float) : Type 0 where
+  pub points : Each (Inside lo hi) (pointsOf lo hi s t l)
+  pub bracket : Within lo hi (playedOf (opened lo hi s t) l)
+  pub answer : Among (playedOf (opened lo hi s t) l .best) (pointsOf lo hi s t l)
