@@ -56,7 +56,7 @@ rest-value f s m (negsuc k) h =
 abbrev half64 : Float
 half64 = ofBits binary64 0x3FE0_0000_0000_0000
 
-same-truth : (a b : Bool) → (T a → T b) → (T b → T a) → a ≡ b
+pub same-truth : (a b : Bool) → (T a → T b) → (T b → T a) → a ≡ b
 same-truth true true h k = refl
 same-truth true false h k = absurd (h tt)
 same-truth false true h k = absurd (k tt)

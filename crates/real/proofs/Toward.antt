@@ -19,6 +19,7 @@ use lib.Ieee.Scale.{grid, overflow, finite, round-same, round-val, round-under}
 use lib.Ieee.Positive.{num, den, den-pos}
 use Rattle.real.proofs.SignedOrder.{P, N, SLe, SumIs, sgn, sle-of, sle-scale, sle-unscale, sle-at, le→sle, here-or-on, round-smono, sum-is, add-opened, add-mono, mul-commute, mul-by, natural, nat-fin, mag, round-mag, mag-nat, mag-finite, in-fin, sub-opened, neg-finite, neg-anti, round-sgn, sgn-natural, zero-of, lt-not-le, le-self}
 use Rattle.real.proofs.Values.{round-own}
+use Rattle.real.proofs.Rounding.{same-truth}
 
 -- ---- units
 
@@ -89,15 +90,9 @@ module _ (a b c a' b' c' : ℕ) (C : 0 < c) (C' : 0 < c') (p : a * c' ≡ a' * c
   add-same : (a + b) * c' ≡ (a' + b') * c
   add-same = omega (arith, add-mul a b c', add-mul a' b' c)
 
-both : (x y : Bool) → (T x → T y) → (T y → T x) → x ≡ y
-both true true h k = refl
-both true false h k = absurd (h tt)
-both false true h k = absurd (k tt)
-both false false h k = refl
-
 module _ (a b c a' b' c' : ℕ) (C : 0 < c) (C' : 0 < c') (p : a * c' ≡ a' * c) (q : b * c' ≡ b' * c) where
   ltb-same : ltb a b ≡ ltb a' b'
-  ltb-same = both (ltb a b) (ltb a' b') (λ t. lt→ltb a' b' (lt-same a b c a' b' c' C C' p q (ltb→lt a b t))) (λ t. lt→ltb a b (lt-same a' b' c' a b c C' C (sym p) (sym q) (ltb→lt a' b' t)))
+  ltb-same = same-truth (ltb a b) (ltb a' b') (λ t. lt→ltb a' b' (lt-same a b c a' b' c' C C' p q (ltb→lt a b t))) (λ t. lt→ltb a b (lt-same a' b' c' a b c C' C (sym p) (sym q) (ltb→lt a' b' t)))
 
   sub-same : (b - a) * c' ≡ (b' - a') * c
   sub-same =
