@@ -23,7 +23,7 @@ use Rattle.local.specs.declared.Estimate.the-variants.{Fitted}
 use Rattle.local.specs.declared.Estimated.{Estimated}
 use Rattle.local.specs.Inner.{Row, Matrix, inverseCell, inverseStep, inverseTimes, allStep, allOf}
 use Rattle.local.specs.Estimate.{inverseRowFinite, inverseFinite, coefficientsFinite, coefficientStep, coefficientsOf, fromInverse, equationsOf, eliminatedOf, fitOf}
-use Rattle.local.specs.NormalEquations.{powerUnits, unit, sum, matrixAt, rightAt, inverseAt, betaAt, gramAt, momentAt, Solves, Exact, ExactFit, System, Solution, mean, line, plane}
+use Rattle.local.specs.NormalEquations.{powerUnits, unit, sum, matrixAt, rightAt, inverseAt, betaAt, gramAt, momentAt, SolvesComputed, ExactInverse, Solves, ExactFit, System, Solution, mean, line, plane}
 
 -- ---- the units: m · 2^e is m · powerUnits e of 2^-1074
 module _ (l m : ℕ) where
@@ -166,13 +166,14 @@ module _ (m : ℕ) (u : ℤ) (A B : ℕ → ℕ → ℤ) (R beta : ℕ → ℤ)
       ∙ ap (λ (z : ℤ). R r *ℤ z) (inverse k r h l)
       ∙ *ℤ-comm (R r) (cond (eqb k r) (u *ℤ u) (pos 0))
 
-  solved : (k : ℕ) → k < m → sum m (λ q. A k q *ℤ (beta q *ℤ u)) ≡ u *ℤ u *ℤ R k
+  solved : (k : ℕ) → k < m → sum m (λ q. A k q *ℤ (beta q *ℤ u)) ≡ R k *ℤ (u *ℤ u)
   solved k h =
       sum-cong m (λ q. A k q *ℤ (beta q *ℤ u)) (λ q. sum m (λ r. A k q *ℤ (B q r *ℤ R r)))
       (λ q l. ap (λ (z : ℤ). A k q *ℤ z) (sym (coefficients q l)) ∙ sym (sum-mul (A k q) m (λ r. B q r *ℤ R r)))
       ∙ sum-swap m m (λ q r. A k q *ℤ (B q r *ℤ R r))
       ∙ sum-cong m (λ r. sum m (λ q. A k q *ℤ (B q r *ℤ R r))) (λ r. cond (eqb k r) (u *ℤ u) (pos 0) *ℤ R r) (λ r l. column k r h l)
       ∙ sum-pick (u *ℤ u) k m R h
+      ∙ *ℤ-comm (u *ℤ u) (R k)
 
   -- the same of G = A and M = R in units of 1 / u³
   published : (k : ℕ) (G : ℕ → ℤ) (M : ℤ) → k < m → ((q : ℕ) → q < m → G q ≡ A k q *ℤ u *ℤ u) → M ≡ R k *ℤ u *ℤ u
@@ -182,17 +183,23 @@ module _ (m : ℕ) (u : ℤ) (A B : ℕ → ℕ → ℤ) (R beta : ℕ → ℤ)
       (λ q l. ap (λ (z : ℤ). z *ℤ beta q) (g q l) ∙ shift (A k q) u (beta q))
       ∙ sum-mul u m (λ q. A k q *ℤ (beta q *ℤ u))
       ∙ ap (λ (z : ℤ). u *ℤ z) (solved k h)
-      ∙ *ℤ-comm u (u *ℤ u *ℤ R k)
-      ∙ ap (λ (z : ℤ). z *ℤ u) (*ℤ-comm (u *ℤ u) (R k) ∙ sym (mul-assoc u u (R k)) ∙ sym e)
+      ∙ *ℤ-comm u (R k *ℤ (u *ℤ u))
+      ∙ ap (λ (z : ℤ). z *ℤ u) (sym (mul-assoc u u (R k)) ∙ sym e)
 
--- ---- the theorem: (XᵀWX) β = XᵀWy of an exact fit, for any number of predictors and observations
+-- ---- the theorems
+
+-- the coefficients of an exact inverse solve the equations as computed
+pub inverse-solves : (m : ℕ) (e : Equations) (a : Matrix) (beta : Row) → ExactInverse m e a beta → SolvesComputed m e beta
+inverse-solves m e a beta c = solved m unit (matrixAt e) (inverseAt a m) (rightAt e) (betaAt beta) (c .inverse) (c .coefficients)
+
+-- (XᵀWX) β = XᵀWy of an exact fit, for any number of predictors and observations
 pub normal-equations : (x y w : Row) (n p : ℕ) → ExactFit x y w n p → Solves x y w n p (fitOf x y w n p .0 .beta)
-normal-equations x y w n p e =
+normal-equations x y w n p (e, c) =
     let m = p + 1 in
     let s = equationsOf x y w n p in
     let f = fitOf x y w n p in
     λ k h.
-    published m unit (matrixAt s) (inverseAt (f .1) m) (rightAt s) (betaAt (f .0 .beta)) (e .inverse) (e .coefficients)
+    published m unit (matrixAt s) (inverseAt (f .1) m) (rightAt s) (betaAt (f .0 .beta)) (c .inverse) (c .coefficients)
     k (gramAt x y w n p k) (momentAt x y w n p k) h (λ q l. e .matrix k q h l) (e .right k h)
 
 -- ---- the family
@@ -235,7 +242,7 @@ module _ (s : System) where
   abbrev moment : ℕ → ℤ
   moment = momentAt (s .x) (s .y) (s .w) (s .n) (s .p)
 
-  -- the sides of the equations in `Exact`
+  -- the sides of the equations in `ExactFit`
   abbrev matrix : ℕ → ℕ → ℤ
   matrix k q = matrixAt equations k q *ℤ unit *ℤ unit
 
@@ -261,22 +268,23 @@ module _ (s : System) where
     same-product : square m product ≡ square m identity
     same-solution : table m solution ≡ table m beta
 
-  exactly : Computed → Exact (s .x) (s .y) (s .w) (s .n) (s .p) equations (fit .1) (s .beta)
-  exactly c =
-      record {
-        matrix = cells m gram matrix (c .same-matrix);
-        right = each m moment right (c .same-right);
-        inverse = cells m product identity (c .same-product);
-        coefficients = each m solution beta (c .same-solution);
-      }
+  inverse-of : Computed → ExactInverse m equations (fit .1) (s .beta)
+  inverse-of c = record { inverse = cells m product identity (c .same-product); coefficients = each m solution beta (c .same-solution) }
+
+  exactly : Computed → ExactFit (s .x) (s .y) (s .w) (s .n) (s .p)
+  exactly c = (
+    record { matrix = cells m gram matrix (c .same-matrix); right = each m moment right (c .same-right) },
+    subst (λ (f : Estimated). ExactInverse m equations (fit .1) (f .beta)) (sym (c .same-beta)) (inverse-of c),
+  )
 
   solved-by : Computed → Solution s
   solved-by c =
-      let e = subst (λ (f : Estimated). Exact (s .x) (s .y) (s .w) (s .n) (s .p) equations (fit .1) (f .beta)) (sym (c .same-beta)) (exactly c) in
       record {
         found = c .same-beta;
-        exact = e;
-        solves = subst (λ (f : Estimated). Solves (s .x) (s .y) (s .w) (s .n) (s .p) (f .beta)) (c .same-beta) (normal-equations (s .x) (s .y) (s .w) (s .n) (s .p) e);
+        exact = exactly c;
+        solves =
+            subst (λ (f : Estimated). Solves (s .x) (s .y) (s .w) (s .n) (s .p) (f .beta)) (c .same-beta)
+            (normal-equations (s .x) (s .y) (s .w) (s .n) (s .p) (exactly c));
       }
 
 computed : Computed mean × Computed line × Computed plane

@@ -49,7 +49,18 @@ inverseAt a m k q = unitsOf (inverseCell a m k q)
 abbrev pub betaAt : Row → ℕ → ℤ
 betaAt beta k = unitsOf (getD beta k nan)
 
--- ---- n observations: p predictors each in x, responses y, weights w
+-- ---- the equations as computed, of m rows
+module _ (m : ℕ) where
+  -- A β is the right-hand side, row by row
+  abbrev pub SolvesComputed : Equations → Row → Type 0
+  SolvesComputed e beta = (k : ℕ) → k < m → sum m (λ q. matrixAt e k q *ℤ (betaAt beta q *ℤ unit)) ≡ rightAt e k *ℤ (unit *ℤ unit)
+
+  -- the inverse is exact: A A⁻¹ = I, and β is A⁻¹ times the right-hand side
+  pub record ExactInverse (e : Equations) (a : Matrix) (beta : Row) : Type 0 where
+    pub inverse : (k r : ℕ) → k < m → r < m → sum m (λ q. matrixAt e k q *ℤ inverseAt a m q r) ≡ cond (eqb k r) (unit *ℤ unit) (pos 0)
+    pub coefficients : (q : ℕ) → q < m → sum m (λ r. inverseAt a m q r *ℤ rightAt e r) ≡ betaAt beta q *ℤ unit
+
+-- ---- the equations as published, of n observations: p predictors each in x, responses y, weights w
 module _ (x y w : Row) (n p : ℕ) where
   -- X, W and y in units: cell k of observation j's design row, its weight and its response
   abbrev pub designAt : ℕ → ℕ → ℤ
@@ -72,18 +83,16 @@ module _ (x y w : Row) (n p : ℕ) where
   abbrev pub Solves : Row → Type 0
   Solves beta = (k : ℕ) → k < p + 1 → sum (p + 1) (λ q. gramAt k q *ℤ betaAt beta q) ≡ momentAt k *ℤ unit
 
-  -- the equations e, the eliminated matrix a and the coefficients beta are exact:
-  -- A = XᵀWX, the right-hand side is XᵀWy, A A⁻¹ = I, and β is A⁻¹ times the right-hand side
-  pub record Exact (e : Equations) (a : Matrix) (beta : Row) : Type 0 where
+  -- the equations e are exact: A = XᵀWX, and the right-hand side is XᵀWy
+  pub record ExactEquations (e : Equations) : Type 0 where
     pub matrix : (k q : ℕ) → k < p + 1 → q < p + 1 → gramAt k q ≡ matrixAt e k q *ℤ unit *ℤ unit
     pub right : (k : ℕ) → k < p + 1 → momentAt k ≡ rightAt e k *ℤ unit *ℤ unit
-    pub inverse : (k r : ℕ) → k < p + 1 → r < p + 1
-        → sum (p + 1) (λ q. matrixAt e k q *ℤ inverseAt a (p + 1) q r) ≡ cond (eqb k r) (unit *ℤ unit) (pos 0)
-    pub coefficients : (q : ℕ) → q < p + 1 → sum (p + 1) (λ r. inverseAt a (p + 1) q r *ℤ rightAt e r) ≡ betaAt beta q *ℤ unit
 
-  -- those of the fit are
+  -- the fit's are, and so is its inverse
   abbrev pub ExactFit : Type 0
-  ExactFit = Exact (equationsOf x y w n p) (fitOf x y w n p .1) (fitOf x y w n p .0 .beta)
+  ExactFit =
+      ExactEquations (equationsOf x y w n p)
+      × ExactInverse (p + 1) (equationsOf x y w n p) (fitOf x y w n p .1) (fitOf x y w n p .0 .beta)
 
 -- ---- a small family given with whole numbers
 
