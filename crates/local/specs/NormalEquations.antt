@@ -1,6 +1,6 @@
--- Fotheringham, Brunsdon and Charlton 2002: the coefficients β at a place solve (XᵀWX) β = XᵀWy. That equation with nothing rounded, and when a fit meets it. Definitions only; proofs/NormalEquations proves them.
+-- Fotheringham, Brunsdon and Charlton 2002: the coefficients β at a place solve (XᵀWX) β = XᵀWy. That equation with nothing rounded, and when a fit meets it. Definitions only; the theorems are in proofs/NormalEquations.
 use mathlib.Core.Path.{_≡_}
-use mathlib.Core.Bool.{Bool, true, false, cond}
+use mathlib.Core.Bool.{true, false, cond}
 use mathlib.Core.List.{[], _∷_}
 use Prim.Native.Nat.{ℕ, zero, suc, _+_, _-_, _*_, _^_, _<_}
 use lib.Dec.{eqb}
