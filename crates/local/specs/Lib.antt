@@ -3,3 +3,4 @@ pub mod Estimate
 pub mod Evaluate
 pub mod Solve
 pub mod Row
+pub mod NormalEquations
