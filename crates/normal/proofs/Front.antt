@@ -1,5 +1,5 @@
 -- A counting fold begun with its first turn apart.
-use mathlib.Core.Path.{_≡_, refl, ap, _∙_}
+use mathlib.Core.Path.{_≡_, ap}
 use Prim.Native.Nat.{ℕ, zero, suc, _+_, _-_, _<_}
 use native.Mathlib.Omega.{arith}
 use Rattle.real.specs.Fold.{turns, range}

@@ -75,6 +75,7 @@ fn observe(
     requires { ⌜ (length (now x) ≡ n * p) × (j < n) × (n ≤ 512) × (p ≤ 7) ⌝ }
     ensures { λ _. ⌜ (now (a .exit), now (rhs .exit)) ≡ observed w (designRow (now (x .entry)) p j) y (p + 1) (now (a .entry), now (rhs .entry)) ⌝ }
 {
+    // 000 multiplies by the 1 of the design row too.
     let own = w * 1.0;
     rhs[0] = rhs[0] + own * y;
     first_row_add(&mut a[0], own, x, n, p, j);
