@@ -5,6 +5,7 @@ ghost use mathlib.Core.List.{_++_};
 ghost use Prim.Native.Nat.{_+_, _*_, _≤_, _<_};
 ghost use lib.ListN.{length, take, drop};
 ghost use Rattle.neighbours.specs.Bandwidth.{Usable};
+ghost use Rattle.normal.specs.Normal.{designRow};
 ghost use Rattle.local.specs.Inner.{innerOf, inverseTimes};
 ghost use Rattle.local.specs.Estimate.{inverseRowFinite, inverseFinite, coefficientsFinite, coefficientsOf, refusedWith, fromInverse, fitOf};
 ghost use Rattle.local.specs.Evaluate.{leverageOf, addSquares, squaresOf, explainedOf, localR2, valuesAt};
@@ -50,14 +51,14 @@ pub struct Squares {
     pub residual: f64,
 }
 
-// The inner product of the first m of two lists.
-fn inner(u: [f64; 8], v: [f64; 8], m: usize) -> f64
-    requires { ⌜ m ≤ 8 ⌝ }
-    ensures { λ r. ⌜ r ≡ innerOf u v m ⌝ }
+// The fitted value of observation j: the coefficients times its design row, read where its predictors stand.
+fn fitted(beta: &[f64; 8], x: &[f64], n: usize, p: usize, j: usize) -> f64
+    requires { ⌜ (length (now x) ≡ n * p) × (j < n) × (n ≤ 512) × (p ≤ 7) ⌝ }
+    ensures { λ r. ⌜ r ≡ innerOf (now (beta .entry)) (designRow (now (x .entry)) p j) (p + 1) ⌝ }
 {
-    let mut acc = 0.0;
-    for q in 0..m {
-        acc = acc + u[q] * v[q];
+    let mut acc = 0.0 + beta[0] * 1.0;
+    for q in 0..p {
+        acc = acc + beta[q + 1] * x[j * p + q];
     }
     acc
 }
@@ -244,8 +245,7 @@ fn sum_squares(
         if v == 0.0 {
             continue;
         }
-        let fitted = inner(beta, normal::design_row(x, n, p, j), p + 1);
-        s = add_squares(s, v, y[j], mean, fitted);
+        s = add_squares(s, v, y[j], mean, fitted(&beta, x, n, p, j));
     }
     s
 }
@@ -294,7 +294,7 @@ fn evaluate(
     ensures { λ r. ⌜ r ≡ valuesAt (now (x .entry)) (now (y .entry)) (now (w .entry)) n p i (now (inverse .entry)) beta sum ⌝ }
 {
     let row = normal::design_row(x, n, p, i);
-    let predicted = inner(beta, row, p + 1);
+    let predicted = fitted(&beta, x, n, p, i);
     Values {
         predicted,
         residual: y[i] - predicted,

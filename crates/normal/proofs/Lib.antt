@@ -1,1 +1,3 @@
+pub mod Design
+pub mod Front
 pub mod WeightSum

@@ -42,28 +42,47 @@ pub fn design_row(x: &[f64], n: usize, p: usize, j: usize) -> [f64; 8]
     r
 }
 
-// Adds wx * x[q] to row[q], for q from p to m - 1.
-fn row_add(row: [f64; 8], wx: f64, x: [f64; 8], p: usize, m: usize) -> [f64; 8]
-    requires { ⌜ (p ≤ m) × (m ≤ 8) ⌝ }
-    ensures { λ r. ⌜ r ≡ rowAdded wx x p m row ⌝ }
+// Adds wx times predictor q of observation j to row[q + 1], for q from `from` on. The design row is read where its predictors stand.
+fn row_add(row: &mut [f64; 8], wx: f64, x: &[f64], n: usize, p: usize, j: usize, from: usize)
+    requires { ⌜ (length (now x) ≡ n * p) × (j < n) × (n ≤ 512) × (p ≤ 7) × (from ≤ p) ⌝ }
+    ensures { λ _. ⌜ now (row .exit) ≡ rowAdded wx (designRow (now (x .entry)) p j) (from + 1) (p + 1) (now (row .entry)) ⌝ }
 {
-    let mut r = row;
-    for q in p..m {
-        r[q] = r[q] + wx * x[q];
+    for q in from..p {
+        row[q + 1] = row[q + 1] + wx * x[j * p + q];
     }
-    r
 }
 
-// Adds one observation of weight w to the upper triangle of a and to the right-hand side.
-fn observe(a: &mut [[f64; 8]; 8], rhs: &mut [f64; 8], w: f64, x: [f64; 8], y: f64, m: usize)
-    requires { ⌜ m ≤ 8 ⌝ }
-    ensures { λ _. ⌜ (now (a .exit), now (rhs .exit)) ≡ observed w x y m (now (a .entry), now (rhs .entry)) ⌝ }
+// The same of row 0, which has a cell for the 1 of the design row too.
+fn first_row_add(row: &mut [f64; 8], wx: f64, x: &[f64], n: usize, p: usize, j: usize)
+    requires { ⌜ (length (now x) ≡ n * p) × (j < n) × (n ≤ 512) × (p ≤ 7) ⌝ }
+    ensures { λ _. ⌜ now (row .exit) ≡ rowAdded wx (designRow (now (x .entry)) p j) 0 (p + 1) (now (row .entry)) ⌝ }
 {
-    for p in 0..m {
-        let wx = w * x[p];
-        rhs[p] = rhs[p] + wx * y;
-        let row = a[p];
-        a[p] = row_add(row, wx, x, p, m);
+    row[0] = row[0] + wx * 1.0;
+    row_add(&mut *row, wx, x, n, p, j, 0);
+}
+
+// Adds observation j, of weight w and response y, to the upper triangle of a and to the right-hand side.
+fn observe(
+    a: &mut [[f64; 8]; 8],
+    rhs: &mut [f64; 8],
+    w: f64,
+    y: f64,
+    x: &[f64],
+    n: usize,
+    p: usize,
+    j: usize,
+)
+    requires { ⌜ (length (now x) ≡ n * p) × (j < n) × (n ≤ 512) × (p ≤ 7) ⌝ }
+    ensures { λ _. ⌜ (now (a .exit), now (rhs .exit)) ≡ observed w (designRow (now (x .entry)) p j) y (p + 1) (now (a .entry), now (rhs .entry)) ⌝ }
+{
+    // 000 multiplies by the 1 of the design row too.
+    let own = w * 1.0;
+    rhs[0] = rhs[0] + own * y;
+    first_row_add(&mut a[0], own, x, n, p, j);
+    for q in 0..p {
+        let wx = w * x[j * p + q];
+        rhs[q + 1] = rhs[q + 1] + wx * y;
+        row_add(&mut a[q + 1], wx, x, n, p, j, q);
     }
 }
 
@@ -85,7 +104,7 @@ pub fn normal_equations(
         if v == 0.0 {
             continue;
         }
-        observe(&mut *a, &mut *rhs, v, design_row(x, n, p, j), y[j], p + 1);
+        observe(&mut *a, &mut *rhs, v, y[j], x, n, p, j);
     }
 }
 

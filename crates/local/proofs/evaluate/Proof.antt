@@ -10,7 +10,6 @@ evaluate-spec =
     tie.close
     (tie.spec
     (λ c κs. search needs)
-    (λ c. search needs)
     (λ c κs. search needs)
     (λ c. search needs)
     (λ c. search needs)
@@ -19,4 +18,4 @@ evaluate-spec =
     (λ c. search needs)
     (λ c. search needs)
     (λ c κs. search needs)
-    (λ c. rw (c .leverage .ensures, c .before .before .local-r-squared .ensures, c .before .before .before .before .inner .ensures, c .before .before .before .before .before .design-row .ensures)))
+    (λ c. rw (c .leverage .ensures, c .before .before .local-r-squared .ensures, c .before .before .before .before .fitted .ensures, c .before .before .before .before .before .before .design-row .ensures)))

@@ -1,23 +1,40 @@
 -- `normal::observe` meets its contract.
 use borrow.Author.Needs.{needs}
-use Prim.Native.Nat.{_-_}
+use Prim.Native.Nat.{_+_, _*_, _-_, _<_}
+use mathlib.Core.Path.{sym, _∙_}
+use native.Mathlib.Omega.{arith}
+use lib.Arith.{digits-lt}
 use Rattle.real.proofs.Fold.{Range, none, more, done}
-use Rattle.normal.specs.Normal.{observeStep, observed}
+use Rattle.normal.specs.Normal.{designRow, observeStep, observed}
+use Rattle.normal.proofs.Design.{design-next, observed-front}
 use Rattle.normal.proofs.observe.Statement.{statement}
 use Rattle.normal.proofs.observe.Tie as tie
 
 abbrev Inv-loop : tie.InvT-loop
-Inv-loop a₀ rhs₀ w y m x p₀ a rhs p = Range (observeStep w x y m) (a₀, rhs₀) 0 m p (a, rhs)
+Inv-loop a₀ rhs₀ w y x n p j own q₀ a rhs q = Range (observeStep w (designRow x p j) y (p + 1)) (a₀, rhs₀) 1 (p + 1) (q + 1) (a, rhs)
 
 abbrev μ-loop : tie.MeasureT-loop
-μ-loop a₀ rhs₀ w y m x p₀ a rhs p = m - p
+μ-loop a₀ rhs₀ w y x n p j own q₀ a rhs q = p - q
+
+-- the cell read is one of observation j
+below : (c : tie.In-loop Inv-loop μ-loop) → let s = c .before .before .before .before .before .before in s .args .j * s .args .p + c .before .loop .q < s .args .n * s .args .p
+below c = digits-lt (c .before .before .before .before .before .before .pre .1) (c .loop-test .taken)
 
 pub observe-spec : {M : Type 1} → statement M
 unfolding observeStep observed
 observe-spec =
     tie.close
     (tie.spec Inv-loop μ-loop
+    (λ c. search needs)
+    (λ c. search needs)
+    (λ c. search needs)
+    (λ c κs. search needs)
     (λ c. none (search needs))
+    (λ c. omega (arith, below c))
+    (λ c. omega (arith, below c))
+    (λ c. omega (arith, below c))
+    (λ c. omega (arith, below (c .before)))
+    (λ c. search needs)
     (λ c. search needs)
     (λ c. search needs)
     (λ c. search needs)
@@ -29,7 +46,10 @@ observe-spec =
     (λ c κs. search needs)
     (λ c. search needs)
     (λ c. search needs)
-    (λ c. search needs)
-    (λ c. search needs)
-    (λ c. more (c .before .before .before .before .loop .inv) (search needs) (rw (c .row-add .ensures)))
-    (λ c. done (c .before .loop .inv) (search needs)))
+    (λ c.
+    let b = c .before .before .before .before .before in
+    let s = b .before .before .before .before .before .args in
+    more (b .loop .inv) (search needs) (rw (c .row-add .ensures, design-next (s .x .now) (s .p) (s .j) (b .loop .q) (search needs) (search needs))))
+    (λ c.
+    let s = c .before .before .before .before .before .before .args in
+    done (c .before .loop .inv) (search needs) ∙ sym (observed-front (s .x .now) (s .p) (s .j) (s .w) (s .y) (s .a .now) (s .rhs .now) ∙ rw (← c .before .before .first-row-add .ensures))))

@@ -1,17 +1,23 @@
 -- `normal::row_add` meets its contract.
 use borrow.Author.Needs.{needs}
-use Prim.Native.Nat.{_-_}
-use mathlib.Core.Path.{refl}
+use Prim.Native.Nat.{_+_, _*_, _-_, _<_}
+use native.Mathlib.Omega.{arith}
+use lib.Arith.{digits-lt}
 use Rattle.real.proofs.Fold.{Range, none, more, done}
-use Rattle.normal.specs.Normal.{cellStep, rowAdded}
+use Rattle.normal.specs.Normal.{designRow, cellStep, rowAdded}
+use Rattle.normal.proofs.Design.{design-next}
 use Rattle.normal.proofs.row_add.Statement.{statement}
 use Rattle.normal.proofs.row_add.Tie as tie
 
 abbrev Inv-loop : tie.InvT-loop
-Inv-loop wx p m x r₀ q₀ r q = Range (cellStep wx x) r₀ p m q r
+Inv-loop row₀ wx x n p j from q₀ row q = Range (cellStep wx (designRow x p j)) row₀ (from + 1) (p + 1) (q + 1) row
 
 abbrev μ-loop : tie.MeasureT-loop
-μ-loop wx p m x r₀ q₀ r q = m - q
+μ-loop row₀ wx x n p j from q₀ row q = p - q
+
+-- the cell read is one of observation j
+below : (c : tie.In-loop Inv-loop μ-loop) → let s = c .before .before in s .args .j * s .args .p + c .before .loop .q < s .args .n * s .args .p
+below c = digits-lt (c .before .before .pre .1) (c .loop-test .taken)
 
 pub row-add-spec : {M : Type 1} → statement M
 unfolding cellStep rowAdded
@@ -22,10 +28,14 @@ row-add-spec =
     (λ c. search needs)
     (λ c. search needs)
     (λ c. search needs)
+    (λ c. omega (arith, below (c .before)))
+    (λ c. omega (arith, below (c .before)))
+    (λ c. omega (arith, below (c .before)))
+    (λ c. omega (arith, below (c .before .before)))
     (λ c. search needs)
     (λ c. search needs)
     (λ c. search needs)
     (λ c. search needs)
     (λ c. search needs)
-    (λ c. more (c .before .loop .inv) (search needs) refl)
+    (λ c. let s = c .before .before .before .before .args in more (c .before .before .before .loop .inv) (search needs) (rw (design-next (s .x .now) (s .p) (s .j) (c .before .before .before .loop .q) (search needs) (search needs))))
     (λ c. done (c .before .loop .inv) (search needs)))
