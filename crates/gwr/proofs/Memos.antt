@@ -1,7 +1,7 @@
 -- A bandwidth's key gives the bandwidth back, so that a trial with the same key is the same trial.
 use mathlib.Core.Path.{_≡_, refl, sym, ap, subst, _∙_}
 use mathlib.Core.Bool.{Bool, true, false, not}
-use mathlib.Core.List.{List}
+use mathlib.Core.List.{List, [], _∷_}
 use Prim.Native.Nat.{ℕ, zero, suc, _≤_, _<_}
 use native.Mathlib.Omega.{arith}
 use lib.Dec.{T, eqb}
@@ -17,7 +17,7 @@ use Rattle.plan.specs.declared.GwrOptions.{GwrOptions}
 use Rattle.plan.specs.Plan.{bandwidthAt}
 use Rattle.gwr.specs.declared.Trial.{Trial}
 use Rattle.gwr.specs.Search.{trialOf, Tried}
-use Rattle.gwr.specs.Memo.{keyOf, bandwidthWith, trialAt, entryOf, Keyed, Remembered}
+use Rattle.gwr.specs.Memo.{keyOf, bandwidthWith, trialAt, keyAt, solvesAt, entryOf, Keyed, Remembered}
 
 -- what does not differ from itself is no NaN
 pub number : (x : Float) → ne x x ≡ false → T (not (isNan x))
@@ -58,39 +58,38 @@ module _ (d : Data) (o : GwrOptions) (point : Float) (b : GwrBandwidth) (key : �
   unfolding trialOf
   point-is = ap (trialAt d (o .kernel)) hb
 
-  module _ {keys : List ℕ} {scores : List Float} {solves : List ℕ} (memo : Remembered d o keys scores solves) (j : ℕ) where
+  module _ {tried : List (List ℕ)} {scores : List Float} (memo : Remembered d o tried scores) (j : ℕ) where
     -- an entry in use that has the point's key holds the point's trial
-    pub recalled : getD keys j 0 ≡ key → 0 < getD solves j 0 → Tried (entryOf scores solves j) (trialOf d o point)
+    pub recalled : keyAt tried j ≡ key → 0 < solvesAt tried j → Tried (entryOf tried scores j) (trialOf d o point)
     recalled e h =
         let t = memo .entry j h in
-        let at : bandwidthWith (o .bandwidth) (getD keys j 0) ≡ b = ap (bandwidthWith (o .bandwidth)) e ∙ told in
+        let at : bandwidthWith (o .bandwidth) (keyAt tried j) ≡ b = ap (bandwidthWith (o .bandwidth)) e ∙ told in
         record { is = t .is ∙ ap (trialAt d (o .kernel)) at ∙ point-is; few = t .few }
 
     -- and the point's trial may be put into any entry
-    pub kept : (t : Trial) → Tried t (trialAt d (o .kernel) b) → j ≤ 101 → Remembered d o (set keys j key) (set scores j (t .score)) (set solves j (t .solves))
+    pub kept : (t : Trial) → Tried t (trialAt d (o .kernel) b) → j ≤ 101 → Remembered d o (set tried j (key ∷ t .solves ∷ [])) (set scores j (t .score))
     kept t ht low =
         let l = memo .long in
-        record { long = (simp length-set (l .0), simp length-set (l .1), simp length-set (l .2)); entry = λ i h. go i h (eqb i j) refl }
+        record { long = (simp length-set (l .0), simp length-set (l .1)); entry = λ i h. go i h (eqb i j) refl }
       where
-        go : (i : ℕ) → 0 < getD (set solves j (t .solves)) i 0 → (q : Bool) → eqb i j ≡ q
-            → Tried (entryOf (set scores j (t .score)) (set solves j (t .solves)) i) (trialAt d (o .kernel) (bandwidthWith (o .bandwidth) (getD (set keys j key) i 0)))
+        next : List (List ℕ)
+        next = set tried j (key ∷ t .solves ∷ [])
+
+        go : (i : ℕ) → 0 < solvesAt next i → (q : Bool) → eqb i j ≡ q
+            → Tried (entryOf next (set scores j (t .score)) i) (trialAt d (o .kernel) (bandwidthWith (o .bandwidth) (keyAt next i)))
         go i h true e =
             let l = memo .long in
-            rw (eqb-true i j e, getD-set-same keys j key 0 (omega arith), getD-set-same scores j (t .score) nan (omega arith), getD-set-same solves j (t .solves) 0 (omega arith), told) ht
+            rw (eqb-true i j e, getD-set-same tried j (key ∷ t .solves ∷ []) [] (omega arith), getD-set-same scores j (t .score) nan (omega arith), told) ht
         go i h false e =
             let other = eqb-false i j e in
-            let used : 0 < getD solves i 0 = rw (getD-set-other solves j i (t .solves) 0 other) at h in
-            rw (getD-set-other keys j i key 0 other, getD-set-other scores j i (t .score) nan other, getD-set-other solves j i (t .solves) 0 other) (memo .entry i used)
+            let used : 0 < solvesAt tried i = rw (getD-set-other tried j i (key ∷ t .solves ∷ []) [] other) at h in
+            rw (getD-set-other tried j i (key ∷ t .solves ∷ []) [] other, getD-set-other scores j i (t .score) nan other) (memo .entry i used)
 
 -- before a search no entry is in use
-unused : (k j : ℕ) → _≡_ {A = ℕ} (getD (replicate k 0) j 0) 0
+unused : (k j : ℕ) → solvesAt (replicate k (0 ∷ 0 ∷ [])) j ≡ 0
 unused zero j = refl
 unused (suc k) zero = refl
 unused (suc k) (suc j) = unused k j
 
-pub forgotten : (d : Data) (o : GwrOptions) (v : Float) → Remembered d o (replicate 102 0) (replicate 102 v) (replicate 102 0)
-forgotten d o v =
-    record {
-      long = (simp length-replicate, simp length-replicate, simp length-replicate);
-      entry = λ j h. absurd (omega (arith, unused 102 j));
-    }
+pub forgotten : (d : Data) (o : GwrOptions) (v : Float) → Remembered d o (replicate 102 (0 ∷ 0 ∷ [])) (replicate 102 v)
+forgotten d o v = record { long = (simp length-replicate, simp length-replicate); entry = λ j h. absurd (omega (arith, unused 102 j)) }

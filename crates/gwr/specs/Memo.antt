@@ -2,7 +2,7 @@
 use Prim.Native.Nat.{ℕ, _≤_, _<_}
 use mathlib.Core.Path.{_≡_}
 use mathlib.Core.Logic.{_⊎_}
-use mathlib.Core.List.{List}
+use mathlib.Core.List.{List, []}
 use lib.ListN.{length, getD}
 use lib.Ieee.{Float, nan, binary64, ofBits, toBits}
 use Rattle.kernel.specs.declared.GwrKernel.{GwrKernel}
@@ -28,9 +28,16 @@ bandwidthWith (AdaptiveKnn k) key = AdaptiveKnn key
 abbrev pub trialAt : Data → GwrKernel → GwrBandwidth → Trial
 trialAt d k b = trialFrom (sweepOf d k b) (d .n)
 
+-- entry j of the bandwidths tried: a key, and the solves of its trial; an entry in use has solves
+abbrev pub keyAt : List (List ℕ) → ℕ → ℕ
+keyAt tried j = getD (getD tried j []) 0 0
+
+abbrev pub solvesAt : List (List ℕ) → ℕ → ℕ
+solvesAt tried j = getD (getD tried j []) 1 0
+
 -- the trial that entry j holds
-abbrev pub entryOf : List Float → List ℕ → ℕ → Trial
-entryOf scores solves j = record { score = getD scores j nan; solves = getD solves j 0 }
+abbrev pub entryOf : List (List ℕ) → List Float → ℕ → Trial
+entryOf tried scores j = record { score = getD scores j nan; solves = solvesAt tried j }
 
 -- ---- what the code's parts ensure
 
@@ -39,13 +46,13 @@ pub record Keyed (b : GwrBandwidth) (r : ℕ) : Type 0 where
   pub is : r ≡ keyOf b
   pub back : bandwidthWith b r ≡ b
 
--- r is the first entry but the last that is not in use or has the key, else the last; an entry in use has solves
-pub record Slot (keys solves : List ℕ) (key r : ℕ) : Type 0 where
+-- r is the first entry but the last that is not in use or has the key, else the last
+pub record Slot (tried : List (List ℕ)) (key r : ℕ) : Type 0 where
   pub within : r ≤ 101
-  pub before : (k : ℕ) → k < r → (0 < getD solves k 0) × (getD keys k 0 ≡ key → ⊥)
-  pub found : r < 101 → (getD solves r 0 ≡ 0) ⊎ (getD keys r 0 ≡ key)
+  pub before : (k : ℕ) → k < r → (0 < solvesAt tried k) × (keyAt tried k ≡ key → ⊥)
+  pub found : r < 101 → (solvesAt tried r ≡ 0) ⊎ (keyAt tried r ≡ key)
 
 -- there are 102 entries, and each in use holds the trial at the bandwidth that its key tells
-pub record Remembered (d : Data) (o : GwrOptions) (keys : List ℕ) (scores : List Float) (solves : List ℕ) : Type 0 where
-  pub long : (length keys ≡ 102) × (length scores ≡ 102) × (length solves ≡ 102)
-  pub entry : (j : ℕ) → 0 < getD solves j 0 → Tried (entryOf scores solves j) (trialAt d (o .kernel) (bandwidthWith (o .bandwidth) (getD keys j 0)))
+pub record Remembered (d : Data) (o : GwrOptions) (tried : List (List ℕ)) (scores : List Float) : Type 0 where
+  pub long : (length tried ≡ 102) × (length scores ≡ 102)
+  pub entry : (j : ℕ) → 0 < solvesAt tried j → Tried (entryOf tried scores j) (trialAt d (o .kernel) (bandwidthWith (o .bandwidth) (keyAt tried j)))

@@ -262,15 +262,16 @@ fn key_of(b: GwrBandwidth) -> u64
     }
 }
 
-// The entry for a key: of all but the last the first that has the key or is not in use, else the last.
-fn slot_of(keys: &[u64; 102], solves: &[u64; 102], key: u64) -> usize
-    ensures { λ r. ⌜ Slot (now (keys .entry)) (now (solves .entry)) key r ⌝ }
+// The entry for a key: of all but the last the first that has the key or is not in use, else the last. An entry of `tried`
+// is a key and the solves of its trial; in use it has some.
+fn slot_of(tried: &[[u64; 2]; 102], key: u64) -> usize
+    ensures { λ r. ⌜ Slot (now (tried .entry)) key r ⌝ }
 {
     for j in 0..101usize {
-        if solves[j] == 0 {
+        if tried[j][1] == 0 {
             return j;
         }
-        if keys[j] == key {
+        if tried[j][0] == key {
             return j;
         }
     }
@@ -286,32 +287,30 @@ fn try_point(
     p: usize,
     options: GwrOptions,
     point: f64,
-    keys: &mut [u64; 102],
+    tried: &mut [[u64; 2]; 102],
     scores: &mut [f64; 102],
-    solves: &mut [u64; 102],
 ) -> Trial
     requires { ⌜ Shaped (now coords) (now x) (now y) n p ⌝ }
-    requires { ⌜ Remembered (lentData (now coords) (now x) (now y) n p) options (now keys) (now scores) (now solves) ⌝ }
+    requires { ⌜ Remembered (lentData (now coords) (now x) (now y) n p) options (now tried) (now scores) ⌝ }
     ensures { λ r. ⌜ Tried r (trialOf (lentData (now (coords .entry)) (now (x .entry)) (now (y .entry)) n p) options point) ⌝ }
-    ensures { λ _. ⌜ Remembered (lentData (now (coords .entry)) (now (x .entry)) (now (y .entry)) n p) options (now (keys .exit)) (now (scores .exit)) (now (solves .exit)) ⌝ }
+    ensures { λ _. ⌜ Remembered (lentData (now (coords .entry)) (now (x .entry)) (now (y .entry)) n p) options (now (tried .exit)) (now (scores .exit)) ⌝ }
 {
     let kind = options.bandwidth;
     let k = options.kernel;
     let b = plan::bandwidth_at(kind, point, n, p);
     let key = key_of(b);
-    let j = slot_of(&*keys, &*solves, key);
-    if keys[j] == key {
-        if solves[j] > 0 {
+    let j = slot_of(&*tried, key);
+    if tried[j][0] == key {
+        if tried[j][1] > 0 {
             return Trial {
                 score: scores[j],
-                solves: solves[j],
+                solves: tried[j][1],
             };
         }
     }
     let t = try_bandwidth(coords, x, y, n, p, k, b);
-    keys[j] = key;
+    tried[j] = [key, t.solves];
     scores[j] = t.score;
-    solves[j] = t.solves;
     t
 }
 
@@ -332,21 +331,20 @@ fn make_round(
     p: usize,
     options: GwrOptions,
     r: usize,
-    keys: &mut [u64; 102],
+    tried: &mut [[u64; 2]; 102],
     scores: &mut [f64; 102],
-    solves: &mut [u64; 102],
 ) -> Search
     requires { ⌜ Shaped (now coords) (now x) (now y) n p ⌝ }
-    requires { ⌜ Remembered (lentData (now coords) (now x) (now y) n p) options (now keys) (now scores) (now solves) ⌝ }
+    requires { ⌜ Remembered (lentData (now coords) (now x) (now y) n p) options (now tried) (now scores) ⌝ }
     requires { ⌜ s .solves ≤ 512 * 102 ⌝ }
     ensures { λ t. ⌜ Rounded s t (roundOf (lentData (now (coords .entry)) (now (x .entry)) (now (y .entry)) n p) options r s) ⌝ }
-    ensures { λ _. ⌜ Remembered (lentData (now (coords .entry)) (now (x .entry)) (now (y .entry)) n p) options (now (keys .exit)) (now (scores .exit)) (now (solves .exit)) ⌝ }
+    ensures { λ _. ⌜ Remembered (lentData (now (coords .entry)) (now (x .entry)) (now (y .entry)) n p) options (now (tried .exit)) (now (scores .exit)) ⌝ }
 {
     if s.over {
         return s;
     }
     let g = s.bracket;
-    let t = try_point(coords, x, y, n, p, options, g.aim(), keys, scores, solves);
+    let t = try_point(coords, x, y, n, p, options, g.aim(), tried, scores);
     let next = g.narrow(t.score);
     Search {
         bracket: next,
@@ -364,28 +362,16 @@ fn open_search(
     p: usize,
     options: GwrOptions,
     g: Bracket,
-    keys: &mut [u64; 102],
+    tried: &mut [[u64; 2]; 102],
     scores: &mut [f64; 102],
-    solves: &mut [u64; 102],
 ) -> Search
     requires { ⌜ Shaped (now coords) (now x) (now y) n p ⌝ }
-    requires { ⌜ Remembered (lentData (now coords) (now x) (now y) n p) options (now keys) (now scores) (now solves) ⌝ }
+    requires { ⌜ Remembered (lentData (now coords) (now x) (now y) n p) options (now tried) (now scores) ⌝ }
     ensures { λ r. ⌜ Opened r (openedOf (lentData (now (coords .entry)) (now (x .entry)) (now (y .entry)) n p) options g) ⌝ }
-    ensures { λ _. ⌜ Remembered (lentData (now (coords .entry)) (now (x .entry)) (now (y .entry)) n p) options (now (keys .exit)) (now (scores .exit)) (now (solves .exit)) ⌝ }
+    ensures { λ _. ⌜ Remembered (lentData (now (coords .entry)) (now (x .entry)) (now (y .entry)) n p) options (now (tried .exit)) (now (scores .exit)) ⌝ }
 {
-    let first = try_point(
-        coords,
-        x,
-        y,
-        n,
-        p,
-        options,
-        g.c,
-        &mut *keys,
-        &mut *scores,
-        &mut *solves,
-    );
-    let second = try_point(coords, x, y, n, p, options, g.d, keys, scores, solves);
+    let first = try_point(coords, x, y, n, p, options, g.c, &mut *tried, &mut *scores);
+    let second = try_point(coords, x, y, n, p, options, g.d, tried, scores);
     let half = g.first(first.score);
     let scored = half.second(second.score);
     Search {
@@ -409,35 +395,12 @@ fn golden_section_min(
     requires { ⌜ Shaped (now coords) (now x) (now y) n p ⌝ }
     ensures { λ r. ⌜ Searched r (goldenOf (lentData (now (coords .entry)) (now (x .entry)) (now (y .entry)) n p) options lo hi) ⌝ }
 {
-    let mut keys = [0u64; 102];
+    let mut tried = [[0u64; 2]; 102];
     let mut scores = [0.0; 102];
-    let mut solves = [0u64; 102];
-    let mut s = open_search(
-        coords,
-        x,
-        y,
-        n,
-        p,
-        options,
-        Bracket::start(lo, hi),
-        &mut keys,
-        &mut scores,
-        &mut solves,
-    );
+    let g = Bracket::start(lo, hi);
+    let mut s = open_search(coords, x, y, n, p, options, g, &mut tried, &mut scores);
     for r in 0..100usize {
-        s = make_round(
-            s,
-            coords,
-            x,
-            y,
-            n,
-            p,
-            options,
-            r,
-            &mut keys,
-            &mut scores,
-            &mut solves,
-        );
+        s = make_round(s, coords, x, y, n, p, options, r, &mut tried, &mut scores);
     }
     s
 }

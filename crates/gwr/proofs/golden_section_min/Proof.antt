@@ -16,12 +16,12 @@ use Rattle.gwr.proofs.golden_section_min.Statement.{statement}
 use Rattle.gwr.proofs.golden_section_min.Tie as tie
 
 abbrev Inv-loop : tie.InvT-loop
-Inv-loop coords x y n p options lo hi keys₀ scores₀ solves₀ s₀ r₀ keys scores solves s r =
+Inv-loop coords x y n p options lo hi tried₀ scores₀ s₀ r₀ tried scores s r =
     let d = lentData coords x y n p in
-    Range (roundOf d options) s₀ 0 100 r s × (s .solves ≤ 512 * (r + 2)) × Remembered d options keys scores solves
+    Range (roundOf d options) s₀ 0 100 r s × (s .solves ≤ 512 * (r + 2)) × Remembered d options tried scores
 
 abbrev μ-loop : tie.MeasureT-loop
-μ-loop coords x y n p options lo hi keys₀ scores₀ solves₀ s₀ r₀ keys scores solves s r = 100 - r
+μ-loop coords x y n p options lo hi tried₀ scores₀ s₀ r₀ tried scores s r = 100 - r
 
 pub golden-section-min-spec : {M : Type 1} → statement M
 unfolding goldenOf
@@ -29,21 +29,21 @@ golden-section-min-spec =
     tie.close
     (tie.spec Inv-loop μ-loop
     (λ c κs. search needs)
-    (λ c κs. (c .before .before .before .before .before .before .before .pre, forgotten _ _ _))
+    (λ c κs. (c .before .before .before .before .before .before .pre, forgotten _ _ _))
     (λ c. let e = c .open-search .ensures in (none (search needs), omega (arith, e .0 .few), e .1))
-    (λ c κs. let i = c .before .before .before .before .loop .inv in (c .before .before .before .before .before .before .before .before .before .before .before .before .before .pre, (i .2, omega (arith, i .1))))
+    (λ c κs. let l = c .before .before .before in (l .before .before .before .before .before .before .before .before .pre, (l .loop .inv .2, omega (arith, l .loop .inv .1))))
     (λ c. search needs)
     (λ c. search needs)
     (λ c.
     let e = c .make-round .ensures in
-    (more (c .before .before .before .before .before .loop .inv .0) (search needs) (e .0 .is), omega (arith, e .0 .few), e .1))
+    (more (c .before .before .before .before .loop .inv .0) (search needs) (e .0 .is), omega (arith, e .0 .few), e .1))
     (λ c.
-    let a = c .before .before .before .before .before .before .before .before .before .before .args in
+    let a = c .before .before .before .before .before .before .before .before .before .args in
     let d = lentData (now (a .coords)) (now (a .x)) (now (a .y)) (a .n) (a .p) in
     record {
       is =
           done (c .before .loop .inv .0) (search needs)
           ∙ ap (λ (s : Search). range (roundOf d (a .options)) 0 100 s)
-          (c .before .before .open-search .ensures .0 .is ∙ ap (λ (g : Bracket). openedOf d (a .options) g) (c .before .before .before .before .before .before .start .ensures));
+          (c .before .before .open-search .ensures .0 .is ∙ ap (λ (g : Bracket). openedOf d (a .options) g) (c .before .before .before .before .before .start .ensures));
       few = omega (arith, c .before .loop .inv .0 .high, c .before .loop .inv .1);
     }))

@@ -14,7 +14,8 @@ make-round-spec =
     (λ c κs. search needs)
     (λ c κs. search needs)
     (λ c κs. search needs)
-    (λ c. let s = c .before .before .before .before in omega (arith, s .try-point .ensures .0 .few, s .before .before .before .before .before .before .before .before .before .before .pre .1 .1))
+    (λ c. let s = c .before .before .before .before in omega (arith, s .try-point .ensures .0 .few, s .before .before .before .before .before .before .before .before .before .pre .1 .1))
     (λ c.
     let s = c .before .before .before .before in
-    (round-on _ _ _ _ _ _ _ _ (s .before .before .before .before .before .before .if1 .left) (s .before .before .before .before .aim .ensures) (s .try-point .ensures .0) (c .before .before .before .narrow .ensures) (c .before .before .is-tight .ensures), s .try-point .ensures .1)))
+    let e = s .try-point .ensures in
+    (round-on _ _ _ _ _ _ _ _ (s .before .before .before .before .before .if1 .left) (s .before .before .before .aim .ensures) (e .0) (c .before .before .before .narrow .ensures) (c .before .before .is-tight .ensures), e .1)))

@@ -15,4 +15,5 @@ open-search-spec =
     (λ c. search needs)
     (λ c.
     let s = c .before .before .before .before in
-    (open-is _ _ _ _ _ _ _ (s .before .before .before .before .try-point .ensures .0) (s .try-point2 .ensures .0) (c .before .before .before .first .ensures) (c .before .before .second .ensures), s .try-point2 .ensures .1)))
+    let e = s .try-point2 .ensures in
+    (open-is _ _ _ _ _ _ _ (s .before .before .before .try-point .ensures .0) (e .0) (c .before .before .before .first .ensures) (c .before .before .second .ensures), e .1)))

@@ -5,15 +5,15 @@ use borrow.Author.Needs.{needs}
 use mathlib.Core.Logic.{inl, inr}
 use mathlib.Core.Path.{_≡_}
 use native.Mathlib.Omega.{arith}
-use lib.ListN.{getD}
+use Rattle.gwr.specs.Memo.{keyAt, solvesAt}
 use Rattle.gwr.proofs.slot_of.Statement.{statement}
 use Rattle.gwr.proofs.slot_of.Tie as tie
 
 abbrev Inv-loop : tie.InvT-loop
-Inv-loop keys solves key j₀ j = (j ≤ 101) × ((k : ℕ) → k < j → (0 < getD solves k 0) × (getD keys k 0 ≡ key → ⊥))
+Inv-loop tried key j₀ j = (j ≤ 101) × ((k : ℕ) → k < j → (0 < solvesAt tried k) × (keyAt tried k ≡ key → ⊥))
 
 abbrev μ-loop : tie.MeasureT-loop
-μ-loop keys solves key j₀ j = 101 - j
+μ-loop tried key j₀ j = 101 - j
 
 pub slot-of-spec : {M : Type 1} → statement M
 slot-of-spec =
@@ -22,7 +22,9 @@ slot-of-spec =
     (λ c. (omega arith, below-none _))
     (λ c. search needs)
     (λ c. search needs)
+    (λ c. search needs)
     (λ c. record { within = search needs; before = c .before .before .before .loop .inv .1; found = λ h. inl (c .if1 .taken) })
+    (λ c. search needs)
     (λ c. search needs)
     (λ c. search needs)
     (λ c. record { within = search needs; before = c .before .before .before .before .before .loop .inv .1; found = λ h. inr (c .if2 .taken) })

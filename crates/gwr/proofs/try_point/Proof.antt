@@ -20,20 +20,21 @@ try-point-spec =
     (λ c. search needs)
     (λ c. search needs)
     (λ c. search needs)
+    (λ c. search needs)
+    (λ c. search needs)
+    (λ c. search needs)
     (λ c.
     let s = c .before .before .before .before .before .before in
-    let memo = c .before .before .before .before .before .before .before .before .before .before .before .before .before .before .pre .1 in
-    (recalled _ _ _ _ _ (s .before .before .before .before .bandwidth-at .ensures .is) (s .before .before .before .key-of .ensures) memo _ (c .before .before .before .before .if1 .taken) (c .before .before .if2 .taken), memo))
+    let memo = s .before .before .before .before .before .before .before .pre .1 in
+    (recalled _ _ _ _ _ (s .before .before .before .bandwidth-at .ensures .is) (s .before .before .key-of .ensures) memo _ (c .before .before .before .before .if1 .taken) (c .before .before .if2 .taken), memo))
     (λ c κs. search needs)
-    (λ c. search needs)
-    (λ c. search needs)
     (λ c. search needs)
     (λ c. search needs)
     (λ c. search needs)
     (λ c. search needs)
     (λ c.
     let s = c .before .before .before in
-    let hb = s .before .before .before .before .bandwidth-at .ensures .is in
-    let hk = s .before .before .before .key-of .ensures in
+    let hb = s .before .before .before .bandwidth-at .ensures .is in
+    let hk = s .before .before .key-of .ensures in
     let t = c .try-bandwidth .ensures in
-    (record { is = t .is ∙ point-is _ _ _ _ _ hb hk; few = t .few }, kept _ _ _ _ _ hb hk (c .before .before .before .before .before .before .before .before .before .before .before .pre .1) _ _ t (s .slot-of .ensures .within))))
+    (record { is = t .is ∙ point-is _ _ _ _ _ hb hk; few = t .few }, kept _ _ _ _ _ hb hk (s .before .before .before .before .before .before .before .pre .1) _ _ t (s .slot-of .ensures .within))))
