@@ -24,7 +24,7 @@ abbrev pub bandwidthWith : GwrBandwidth → ℕ → GwrBandwidth
 bandwidthWith (Fixed b) key = Fixed (ofBits binary64 key)
 bandwidthWith (AdaptiveKnn k) key = AdaptiveKnn key
 
--- 01: a trial is a sweep, and so by its bandwidth alone
+-- the trial at a bandwidth
 abbrev pub trialAt : Data → GwrKernel → GwrBandwidth → Trial
 trialAt d k b = trialFrom (sweepOf d k b) (d .n)
 

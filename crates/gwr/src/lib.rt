@@ -262,8 +262,8 @@ fn key_of(b: GwrBandwidth) -> u64
     }
 }
 
-// The entry for a key: of all but the last the first that has the key or is not in use, else the last. An entry of `tried`
-// is a key and the solves of its trial; in use it has some.
+// The entry for a key: of all but the last the first that has the key or is not in use, else the last. An entry is a key and
+// the solves of its trial, of which one in use has some.
 fn slot_of(tried: &[[u64; 2]; 102], key: u64) -> usize
     ensures { λ r. ⌜ Slot (now (tried .entry)) key r ⌝ }
 {
@@ -300,11 +300,12 @@ fn try_point(
     let b = plan::bandwidth_at(kind, point, n, p);
     let key = key_of(b);
     let j = slot_of(&*tried, key);
-    if tried[j][0] == key {
-        if tried[j][1] > 0 {
+    let held = tried[j];
+    if held[0] == key {
+        if held[1] > 0 {
             return Trial {
                 score: scores[j],
-                solves: tried[j][1],
+                solves: held[1],
             };
         }
     }

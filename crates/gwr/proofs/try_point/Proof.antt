@@ -19,14 +19,10 @@ try-point-spec =
     (λ c. search needs)
     (λ c. search needs)
     (λ c. search needs)
-    (λ c. search needs)
-    (λ c. search needs)
-    (λ c. search needs)
-    (λ c. search needs)
     (λ c.
-    let s = c .before .before .before .before .before .before in
+    let s = c .before .before .before .before in
     let memo = s .before .before .before .before .before .before .before .pre .1 in
-    (recalled _ _ _ _ _ (s .before .before .before .bandwidth-at .ensures .is) (s .before .before .key-of .ensures) memo _ (c .before .before .before .before .if1 .taken) (c .before .before .if2 .taken), memo))
+    (recalled _ _ _ _ _ (s .before .before .before .bandwidth-at .ensures .is) (s .before .before .key-of .ensures) memo _ (c .before .before .if1 .taken) (c .before .if2 .taken), memo))
     (λ c κs. search needs)
     (λ c. search needs)
     (λ c. search needs)
