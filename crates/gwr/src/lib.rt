@@ -241,7 +241,7 @@ fn try_bandwidth(
     }
 }
 
-// The bits of a distance, which tell it from every other; those of NaN are one pattern's.
+// The bits of a distance, which tell it from every other; NaN has one pattern.
 fn distance_key(d: f64) -> u64
     ensures { λ r. ⌜ (r ≡ toBits binary64 d) × (ofBits binary64 r ≡ d) ⌝ }
 {
@@ -382,7 +382,8 @@ fn open_search(
     }
 }
 
-// 000's `golden_section_min` from lo to hi, lo below hi: two trials, then at most a hundred rounds of one.
+// 000's `golden_section_min` from lo to hi, lo below hi: two trials, then at most a hundred rounds of one. A searched count
+// comes to few counts, and a bracket that has shrunk to the same points again: such trials are looked up, not worked again.
 fn golden_section_min(
     coords: &[f64],
     x: &[f64],
