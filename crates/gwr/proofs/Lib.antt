@@ -1,4 +1,5 @@
 pub mod Sweeps
 pub mod Searches
+pub mod Memos
 pub mod Fits
 pub mod Literal

@@ -5,6 +5,7 @@ use mathlib.Core.List.{List}
 use Prim.Native.Nat.{ℕ, _+_, _*_, _≤_}
 use native.Mathlib.Omega.{arith}
 use lib.Ieee.{Float}
+use Rattle.kernel.specs.declared.GwrKernel.{GwrKernel}
 use Rattle.neighbours.specs.declared.GwrBandwidth.{GwrBandwidth}
 use Rattle.normal.specs.Data.{Data}
 use Rattle.criterion.specs.declared.Criterion.{Criterion}
@@ -20,24 +21,22 @@ use Rattle.gwr.specs.declared.FitAnswer.{FitAnswer}
 use Rattle.gwr.specs.declared.Fit.{Fit}
 use Rattle.gwr.specs.Sweep.{sweepOf, sweepFinal, endingOf, Swept}
 use Rattle.gwr.specs.Search.{trialFrom, trialOf, roundWith, roundOf, scoredOf, openedOf, goldenOf, Tried, Opened, Rounded, Searched}
+use Rattle.gwr.specs.Memo.{trialAt}
 use Rattle.gwr.specs.Fit.{answerOf, fitFrom, finalOf, foundOf, soughtOf}
 use Rattle.gwr.proofs.Sweeps.{pair}
 
+abbrev trial : Float → ℕ → Trial
+trial v n = record { score = v; solves = n }
+
+pub trial-is : (d : Data) (k : GwrKernel) (b : GwrBandwidth) (s : Sweep) (e : Criterion) (v : Float) → d .n ≤ 512 → Swept (d .n) s (sweepOf d k b) → e ≡ endingOf s (d .n)
+    → v ≡ scoreOf e → Tried (trial v (s .solves)) (trialAt d k b)
+trial-is d k b s e v few hs he hv =
+    record {
+      is = ap (λ (x : Float). trial x (s .solves)) (hv ∙ ap scoreOf he) ∙ ap (λ (t : Sweep). trialFrom t (d .n)) (hs .is);
+      few = omega (arith, hs .solves);
+    }
+
 module _ (d : Data) (o : GwrOptions) where
-  abbrev trial : Float → ℕ → Trial
-  trial v n = record { score = v; solves = n }
-
-  pub trial-is : (point : Float) (b : GwrBandwidth) (s : Sweep) (e : Criterion) (v : Float) → d .n ≤ 512 → b ≡ bandwidthAt (o .bandwidth) point (d .n) (d .p)
-      → Swept (d .n) s (sweepOf d (o .kernel) b) → e ≡ endingOf s (d .n) → v ≡ scoreOf e → Tried (trial v (s .solves)) (trialOf d o point)
-  unfolding trialOf
-  trial-is point b s e v few hb hs he hv =
-      let score : v ≡ scoreOf (endingOf s (d .n)) = hv ∙ ap scoreOf he in
-      let swept : s ≡ sweepOf d (o .kernel) (bandwidthAt (o .bandwidth) point (d .n) (d .p)) = hs .is ∙ ap (λ (w : GwrBandwidth). sweepOf d (o .kernel) w) hb in
-      record {
-        is = ap (λ (x : Float). trial x (s .solves)) score ∙ ap (λ (t : Sweep). trialFrom t (d .n)) swept;
-        few = omega (arith, hs .solves);
-      }
-
   abbrev search : Bracket → Bool → ℕ → Search
   search g b n = record { bracket = g; over = b; solves = n }
 

@@ -1,3 +1,4 @@
 pub mod Sweep
 pub mod Search
+pub mod Memo
 pub mod Fit

@@ -2,10 +2,12 @@
 ghost use mathlib.Core.Path.{_≡_};
 ghost use Prim.Native.Nat.{_+_, _*_, _≤_, _<_};
 ghost use lib.ListN.{length};
+ghost use lib.Ieee.{binary64, ofBits, toBits};
 ghost use Rattle.neighbours.specs.Bandwidth.{Usable};
 ghost use Rattle.plan.specs.Shape.{Shaped};
 ghost use Rattle.gwr.specs.Sweep.{lentData, newSweep, addOf, stopOf, afterOf, visitOf, sweepOf, endingOf, writeOf, visitFinal, sweepFinal, Visited, Swept, Written, SweptFinal};
 ghost use Rattle.gwr.specs.Search.{trialOf, roundOf, openedOf, goldenOf, Opened, Tried, Rounded, Searched};
+ghost use Rattle.gwr.specs.Memo.{Keyed, trialAt, Slot, Remembered};
 ghost use Rattle.gwr.specs.Fit.{answerOf, finalOf, soughtOf, fitOf};
 use criterion::Criterion;
 use criterion::Summary;
@@ -218,7 +220,65 @@ pub struct Trial {
     pub solves: u64,
 }
 
-// The trial at a point of the search.
+// The trial at a bandwidth.
+fn try_bandwidth(
+    coords: &[f64],
+    x: &[f64],
+    y: &[f64],
+    n: usize,
+    p: usize,
+    k: GwrKernel,
+    b: GwrBandwidth,
+) -> Trial
+    requires { ⌜ Shaped (now coords) (now x) (now y) n p ⌝ }
+    requires { ⌜ Usable b ⌝ }
+    ensures { λ r. ⌜ Tried r (trialAt (lentData (now (coords .entry)) (now (x .entry)) (now (y .entry)) n p) k b) ⌝ }
+{
+    let s = sweep_all(coords, x, y, n, p, k, b);
+    Trial {
+        score: s.ending(n).score(),
+        solves: s.solves,
+    }
+}
+
+// The bits of a distance, which tell it from every other; NaN has one pattern.
+fn distance_key(d: f64) -> u64
+    ensures { λ r. ⌜ (r ≡ toBits binary64 d) × (ofBits binary64 r ≡ d) ⌝ }
+{
+    if d != d {
+        0x7FF8_0000_0000_0000
+    } else {
+        f64::to_bits(d)
+    }
+}
+
+// What tells a bandwidth from the others of its kind.
+fn key_of(b: GwrBandwidth) -> u64
+    ensures { λ r. ⌜ Keyed b r ⌝ }
+{
+    match b {
+        GwrBandwidth::Fixed(d) => distance_key(d),
+        GwrBandwidth::AdaptiveKnn(k) => k as u64,
+    }
+}
+
+// The entry for a key: of all but the last the first that has the key or is not in use, else the last. An entry is a key and
+// the solves of its trial, of which one in use has some.
+fn slot_of(tried: &[[u64; 2]; 102], key: u64) -> usize
+    ensures { λ r. ⌜ Slot (now (tried .entry)) key r ⌝ }
+{
+    for j in 0..101usize {
+        if tried[j][1] == 0 {
+            return j;
+        }
+        if tried[j][0] == key {
+            return j;
+        }
+    }
+    101
+}
+
+// The trial at a point of the search: what an earlier trial at the same bandwidth left, or a sweep, which is remembered.
 fn try_point(
     coords: &[f64],
     x: &[f64],
@@ -227,18 +287,32 @@ fn try_point(
     p: usize,
     options: GwrOptions,
     point: f64,
+    tried: &mut [[u64; 2]; 102],
+    scores: &mut [f64; 102],
 ) -> Trial
     requires { ⌜ Shaped (now coords) (now x) (now y) n p ⌝ }
+    requires { ⌜ Remembered (lentData (now coords) (now x) (now y) n p) options (now tried) (now scores) ⌝ }
     ensures { λ r. ⌜ Tried r (trialOf (lentData (now (coords .entry)) (now (x .entry)) (now (y .entry)) n p) options point) ⌝ }
+    ensures { λ _. ⌜ Remembered (lentData (now (coords .entry)) (now (x .entry)) (now (y .entry)) n p) options (now (tried .exit)) (now (scores .exit)) ⌝ }
 {
     let kind = options.bandwidth;
     let k = options.kernel;
     let b = plan::bandwidth_at(kind, point, n, p);
-    let s = sweep_all(coords, x, y, n, p, k, b);
-    Trial {
-        score: s.ending(n).score(),
-        solves: s.solves,
+    let key = key_of(b);
+    let j = slot_of(&*tried, key);
+    let held = tried[j];
+    if held[0] == key {
+        if held[1] > 0 {
+            return Trial {
+                score: scores[j],
+                solves: held[1],
+            };
+        }
     }
+    let t = try_bandwidth(coords, x, y, n, p, k, b);
+    tried[j] = [key, t.solves];
+    scores[j] = t.score;
+    t
 }
 
 // A search: its bracket, whether the bracket has become too narrow to go on, and the solves of all its trials.
@@ -258,16 +332,20 @@ fn make_round(
     p: usize,
     options: GwrOptions,
     r: usize,
+    tried: &mut [[u64; 2]; 102],
+    scores: &mut [f64; 102],
 ) -> Search
     requires { ⌜ Shaped (now coords) (now x) (now y) n p ⌝ }
+    requires { ⌜ Remembered (lentData (now coords) (now x) (now y) n p) options (now tried) (now scores) ⌝ }
     requires { ⌜ s .solves ≤ 512 * 102 ⌝ }
     ensures { λ t. ⌜ Rounded s t (roundOf (lentData (now (coords .entry)) (now (x .entry)) (now (y .entry)) n p) options r s) ⌝ }
+    ensures { λ _. ⌜ Remembered (lentData (now (coords .entry)) (now (x .entry)) (now (y .entry)) n p) options (now (tried .exit)) (now (scores .exit)) ⌝ }
 {
     if s.over {
         return s;
     }
     let g = s.bracket;
-    let t = try_point(coords, x, y, n, p, options, g.aim());
+    let t = try_point(coords, x, y, n, p, options, g.aim(), tried, scores);
     let next = g.narrow(t.score);
     Search {
         bracket: next,
@@ -285,12 +363,16 @@ fn open_search(
     p: usize,
     options: GwrOptions,
     g: Bracket,
+    tried: &mut [[u64; 2]; 102],
+    scores: &mut [f64; 102],
 ) -> Search
     requires { ⌜ Shaped (now coords) (now x) (now y) n p ⌝ }
+    requires { ⌜ Remembered (lentData (now coords) (now x) (now y) n p) options (now tried) (now scores) ⌝ }
     ensures { λ r. ⌜ Opened r (openedOf (lentData (now (coords .entry)) (now (x .entry)) (now (y .entry)) n p) options g) ⌝ }
+    ensures { λ _. ⌜ Remembered (lentData (now (coords .entry)) (now (x .entry)) (now (y .entry)) n p) options (now (tried .exit)) (now (scores .exit)) ⌝ }
 {
-    let first = try_point(coords, x, y, n, p, options, g.c);
-    let second = try_point(coords, x, y, n, p, options, g.d);
+    let first = try_point(coords, x, y, n, p, options, g.c, &mut *tried, &mut *scores);
+    let second = try_point(coords, x, y, n, p, options, g.d, tried, scores);
     let half = g.first(first.score);
     let scored = half.second(second.score);
     Search {
@@ -300,7 +382,8 @@ fn open_search(
     }
 }
 
-// 000's `golden_section_min` from lo to hi, lo below hi: two trials, then at most a hundred rounds of one.
+// 000's `golden_section_min` from lo to hi, lo below hi: two trials, then at most a hundred rounds of one. A searched count
+// comes to few counts, and a bracket that has shrunk to the same points again: such trials are looked up, not worked again.
 fn golden_section_min(
     coords: &[f64],
     x: &[f64],
@@ -314,9 +397,12 @@ fn golden_section_min(
     requires { ⌜ Shaped (now coords) (now x) (now y) n p ⌝ }
     ensures { λ r. ⌜ Searched r (goldenOf (lentData (now (coords .entry)) (now (x .entry)) (now (y .entry)) n p) options lo hi) ⌝ }
 {
-    let mut s = open_search(coords, x, y, n, p, options, Bracket::start(lo, hi));
+    let mut tried = [[0u64; 2]; 102];
+    let mut scores = [0.0; 102];
+    let g = Bracket::start(lo, hi);
+    let mut s = open_search(coords, x, y, n, p, options, g, &mut tried, &mut scores);
     for r in 0..100usize {
-        s = make_round(s, coords, x, y, n, p, options, r);
+        s = make_round(s, coords, x, y, n, p, options, r, &mut tried, &mut scores);
     }
     s
 }

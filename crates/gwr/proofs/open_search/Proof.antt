@@ -13,4 +13,7 @@ open-search-spec =
     (λ c κs. search needs)
     (λ c κs. search needs)
     (λ c. search needs)
-    (λ c. open-is _ _ _ _ _ _ _ (c .before .before .before .before .before .try-point .ensures) (c .before .before .before .before .try-point2 .ensures) (c .before .before .before .first .ensures) (c .before .before .second .ensures)))
+    (λ c.
+    let s = c .before .before .before .before in
+    let e = s .try-point2 .ensures in
+    (open-is _ _ _ _ _ _ _ (s .before .before .before .try-point .ensures .0) (e .0) (c .before .before .before .first .ensures) (c .before .before .second .ensures), e .1)))
