@@ -1,0 +1,68 @@
+#!/usr/bin/env bash
+# Fuzzes the byte calls of the static library from outside, for so many seconds: fuzz.sh [SECONDS]. With the word 'planted' it
+# builds the target once for each fault of fuzz/planted.c instead and sees that each is noticed. docs/FUZZING.md says more.
+# It is not part of the tests. It ends with the number of executions, and fails where anything was found.
+set -eu
+cd "$(dirname "$0")/.."
+work=target/fuzz
+archive=target/staticlib/libgateway.a
+faults=15
+mkdir -p "$work/corpus" "$work/found"
+
+# Whether clang can link a target.
+can_build() {
+    echo 'int LLVMFuzzerTestOneInput(const char *d, long n) { return d && n ? 0 : 0; }' |
+        clang -fsanitize=fuzzer,address,undefined -x c - -o "$work/empty" 2>/dev/null
+}
+
+# build OUTPUT FLAGS..
+build() {
+    local output=$1
+    shift
+    clang -std=c11 -O1 -g -Wall -Wextra -Werror -ffp-contract=off -fsanitize=fuzzer,address,undefined \
+        -fno-sanitize-recover=undefined "$@" -Irust/gateway/include fuzz/target.c fuzz/job.c fuzz/lend.c "$archive" -lm -o "$output"
+}
+
+# run TARGET SECONDS FOLDER..: inputs of up to 1024 bytes; a call of more than 25 seconds is a finding.
+run() {
+    local target=$1 seconds=$2
+    shift 2
+    "$target" -max_total_time="$seconds" -max_len=1024 -len_control=0 -timeout=25 -print_final_stats=1 \
+        -artifact_prefix="$work/found/" "$@" >"$work/log" 2>&1
+}
+
+executions() { sed -n 's/^stat::number_of_executed_units: *//p' "$work/log"; }
+
+what() { grep -m 1 -oE 'FOUND: .*|AddressSanitizer: [a-zA-Z-]+|runtime error: .*|libFuzzer: [a-z-]+' "$work/log" || echo 'see target/fuzz/log'; }
+
+planted() {
+    local fault missed=0
+    for fault in $(seq "$faults"); do
+        clang -std=c11 -O1 -Wall -Wextra -Werror "-DPLANTED=$fault" -Irust/gateway/include -c fuzz/planted.c -o "$work/planted.o"
+        build "$work/planted" -Dzescolumba_fit=planted_fit -Dzescolumba_weight=planted_weight "$work/planted.o"
+        if run "$work/planted" 60 -seed=1; then
+            echo "fault $fault: NOT noticed in $(executions) executions"
+            missed=1
+        else
+            echo "fault $fault: noticed after $(executions) executions ($(what))"
+        fi
+    done
+    rm -rf "$work/found"
+    return "$missed"
+}
+
+can_build || { apt-get install -y clang libclang-rt-14-dev && can_build; }
+if [ ! -f "$archive" ] || [ -n "$(find crates -path '*/src/*' -newer "$archive")" ]; then
+    rt staticlib gateway >"$work/log" 2>&1 || { cat "$work/log"; exit 1; }
+fi
+if [ "${1-}" = planted ]; then
+    planted
+    exit
+fi
+build "$work/target"
+if run "$work/target" "${1:-60}" "$work/corpus"; then
+    echo "$(executions) executions, nothing found"
+else
+    echo "$(executions) executions, and found: $(what); the input lies in $work/found, what was said in $work/log"
+    exit 1
+fi
