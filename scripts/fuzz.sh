@@ -1,7 +1,8 @@
 #!/usr/bin/env bash
-# Fuzzes the byte calls of the static library from outside, for so many seconds: fuzz.sh [SECONDS]. With the word 'planted' it
-# builds the target once for each fault of fuzz/planted.c instead and sees that each is noticed. docs/FUZZING.md says more.
-# It is not part of the tests. It ends with the number of executions, and fails where anything was found.
+# Fuzzes the byte calls of the static library from outside, for so many seconds: fuzz.sh [SECONDS]. It ends with the number of
+# executions, and fails where anything was found. It is not part of the tests; docs/FUZZING.md says more. Two words instead:
+# fuzz.sh planted    builds the target once for each fault of fuzz/planted.c and sees that each is noticed
+# fuzz.sh valgrind   runs the inputs that were kept under valgrind, and says how many of the archive's instructions they run
 set -eu
 cd "$(dirname "$0")/.."
 work=target/fuzz
@@ -51,14 +52,38 @@ planted() {
     return "$missed"
 }
 
+# The addresses of the archive's instructions in the program, but for those that only fill up.
+instructions() {
+    nm "$archive" | awk '$2 ~ /^[tT]$/ { print $3 }' >"$work/functions"
+    objdump -d --no-show-raw-insn "$work/replay" | awk -v names="$work/functions" '
+        BEGIN { while ((getline name < names) > 0) wanted["<" name ">:"] = 1 }
+        />:$/ { inside = $2 in wanted; next }
+        inside && /^ / && !/nop|xchg +%ax,%ax|data16/ { sub(":", "", $1); print "0x" $1 }' | sort
+}
+
+# Memcheck looks at each access and each value of the archive's code; callgrind notes which instructions were run.
+under_valgrind() {
+    local tool='valgrind --quiet --error-exitcode=1' run all
+    command -v valgrind >/dev/null || apt-get install -y valgrind
+    clang -std=c11 -O1 -Wall -Wextra -Werror -ffp-contract=off -no-pie -Wl,-S -Irust/gateway/include fuzz/target.c fuzz/job.c \
+        fuzz/lend.c fuzz/replay.c "$archive" -lm -o "$work/replay"
+    $tool "$work/replay" "$work"/corpus/*
+    $tool --tool=callgrind --dump-instr=yes --compress-pos=no --compress-strings=no --callgrind-out-file="$work/callgrind" \
+        "$work/replay" "$work"/corpus/* >/dev/null
+    instructions >"$work/all"
+    awk '/^0x/ { print $1 }' "$work/callgrind" | sort -u | comm -12 - "$work/all" >"$work/run"
+    run=$(wc -l <"$work/run") all=$(wc -l <"$work/all")
+    echo "$run of the archive's $all instructions run, memcheck found nothing"
+}
+
 can_build || { apt-get install -y clang libclang-rt-14-dev && can_build; }
 if [ ! -f "$archive" ] || [ -n "$(find crates -path '*/src/*' -newer "$archive")" ]; then
     rt staticlib gateway >"$work/log" 2>&1 || { cat "$work/log"; exit 1; }
 fi
-if [ "${1-}" = planted ]; then
-    planted
-    exit
-fi
+case "${1-}" in
+planted) planted; exit ;;
+valgrind) under_valgrind; exit ;;
+esac
 build "$work/target"
 if run "$work/target" "${1:-60}" "$work/corpus"; then
     echo "$(executions) executions, nothing found"

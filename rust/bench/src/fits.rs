@@ -90,7 +90,7 @@ pub fn fits(repeats: usize) {
     }
 }
 
-/// How times grow with observations and predictors.
+/// How times grow with observations and predictors, at a distance at which every pantry weighs.
 pub fn growth(repeats: usize) {
     head("n | p | kernel", 3);
     for kernel in [0, 1] {
@@ -98,7 +98,9 @@ pub fn growth(repeats: usize) {
             for p in [0, 2, 4, 7] {
                 // A small fit is a short time.
                 let repeats = repeats * (512 / n) as usize;
-                let (times, _) = times(&job(n, p, kernel, 0), repeats);
+                let mut job = job(n, p, kernel, 0);
+                job.bandwidth = 2000.0f64.to_bits();
+                let (times, _) = times(&job, repeats);
                 line(&format!("{n} | {p} | {}", KERNELS[kernel as usize]), times);
             }
         }
