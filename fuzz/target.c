@@ -15,7 +15,9 @@ static const uint64_t NAN_BITS = 0x7FF8000000000000;
 static Lent coords, x, y, out, summary;
 
 /* libFuzzer takes a rise of one of these for something new: what was answered, to what, after how many solves. */
-__attribute__((section("__libfuzzer_extra_counters"))) static uint8_t counters[19 * 12 * 16 + 19 * 9 + 19 * 16 + 12 * 4];
+enum { SOLVES = 19 * 12 * 16, PREDICTORS = 19 * 9, OBSERVATIONS = 19 * 16, SORTS = 12 * 25, WIDTHS = 12 * 16, WEIGHTS = 19 * 3 * 25 };
+__attribute__((section("__libfuzzer_extra_counters"))) static uint8_t
+    counters[SOLVES + PREDICTORS + OBSERVATIONS + SORTS + WIDTHS + WEIGHTS];
 
 #define REQUIRE(fact, text) ((fact) ? (void)0 : found(text))
 
@@ -119,7 +121,8 @@ static void check_rows(const Job *j, const uint8_t *rows, size_t count) {
 }
 
 /* What an answer may leave, by 01 and the header. */
-static void check_answer(const Job *j, uint32_t number, const uint8_t *rows, size_t row_bytes, const uint8_t *sums, size_t sum_bytes) {
+static void check_answer(const Job *j, uint32_t number, const uint8_t *rows, size_t row_bytes, const uint8_t *sums,
+                         size_t sum_bytes) {
     uint32_t demanded = refused(j);
     REQUIRE(demanded == 0 || number == demanded, "not the refusal that the input demands");
     int solving = number >= 14 && number <= 17;
@@ -147,20 +150,32 @@ static void check_answer(const Job *j, uint32_t number, const uint8_t *rows, siz
     }
 }
 
-static void count(const Job *j, uint32_t number, const uint8_t *sums) {
-    size_t choice = number == 18 ? 0 : (size_t)(j->kernel * 4 + j->kind), at = 0, n = j->coords_len / 16;
+/* Of five sorts of numbers which one v is. */
+static size_t sort_of(double v) {
+    return isnan(v) ? 0 : isinf(v) ? 1 : v <= 0 ? 2 : v == 1 ? 3 : 4;
+}
+
+static void count(const Job *j, uint32_t number, const uint8_t *rows, const uint8_t *sums) {
+    size_t choice = number == 18 ? 0 : (size_t)(j->kernel * 4 + j->kind), n = j->coords_len / 16;
     uint64_t solves = number == 0 || (number >= 14 && number <= 17) ? word(sums + 16) : 0;
     size_t bucket = solves == 0 ? 0 : 64 - (size_t)__builtin_clzll(solves);
-    counters[at + (number * 12 + choice) * 16 + (bucket < 16 ? bucket : 15)] = 1;
-    at += 19 * 12 * 16;
-    counters[at + number * 9 + (j->p < 8 ? j->p : 8)] = 1;
-    at += 19 * 9;
-    counters[at + number * 16 + (n < 15 ? n : 15)] = 1;
-    at += 19 * 16;
-    if (number == 0) {
-        double aicc = real(sums + 8);
-        counters[at + choice * 4 + (isnan(aicc) ? 0 : isinf(aicc) ? 1 : aicc < 0 ? 2 : 3)] = 1;
-    }
+    uint8_t *at = counters;
+    at[(number * 12 + choice) * 16 + (bucket < 16 ? bucket : 15)] = 1;
+    at += SOLVES;
+    at[number * 9 + (j->p < 8 ? j->p : 8)] = 1;
+    at += PREDICTORS;
+    at[number * 16 + (n < 15 ? n : 15)] = 1;
+    at += OBSERVATIONS;
+    if (number != 0) return;
+    at[(choice * 5 + sort_of(real(sums + 8))) * 5 + sort_of(real(rows + 8 * (j->p + 3)))] = 1;
+    at += SORTS;
+    at[choice * 16 + (word(sums) >> 55) % 16] = 1;
+}
+
+static void count_weight(const Weigh *w, uint32_t number, double weight) {
+    size_t kernel = w->kernel < 3 ? (size_t)w->kernel : 0;
+    uint8_t *at = counters + SOLVES + PREDICTORS + OBSERVATIONS + SORTS + WIDTHS;
+    at[((number * 3 + kernel) * 5 + sort_of(real((const uint8_t *)&w->b))) * 5 + sort_of(weight)] = 1;
 }
 
 static void fuzz_fit(Source *s) {
@@ -174,7 +189,7 @@ static void fuzz_fit(Source *s) {
     size_t row_bytes = written(rows[0], rows[1], j.out_len);
     size_t sum_bytes = written(sums[0], sums[1], j.summary_len);
     check_answer(&j, number, rows[0], row_bytes, sums[0], sum_bytes);
-    count(&j, number, sums[0]);
+    count(&j, number, rows[0], sums[0]);
 }
 
 static uint32_t call_weight(const Weigh *w, Side side, uint8_t *bytes) {
@@ -197,10 +212,10 @@ static void fuzz_weight(Source *s) {
     REQUIRE(number == again, "the same call gave another number");
     size_t len = written(bytes[0], bytes[1], w.out_len);
     REQUIRE(len == (number == 13 || number == 18 ? 0 : 8), "bytes written for a weight");
-    if (len == 0) return;
-    double weight = real(bytes[0]);
+    double weight = len == 0 ? 0 : real(bytes[0]);
     REQUIRE(weight >= 0 && weight <= 1, "a weight outside 0 to 1");
-    REQUIRE(number == 0 || word(bytes[0]) == 0, "a weight with refusal 9");
+    REQUIRE(number == 0 || weight == 0, "a weight with refusal 9");
+    count_weight(&w, number, weight);
 }
 
 int LLVMFuzzerInitialize(int *argc, char ***argv) {

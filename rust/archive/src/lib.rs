@@ -103,3 +103,19 @@ pub fn link(name: &str) -> PathBuf {
     println!("cargo::rustc-link-lib=static={name}");
     archive
 }
+
+#[cfg(test)]
+mod tests {
+    use super::*;
+
+    #[test]
+    fn a_crate_is_made_of_what_it_depends_on() {
+        let package = PathBuf::from(env!("CARGO_MANIFEST_DIR"));
+        let root = package.ancestors().nth(2).unwrap();
+        assert_eq!(crates_of(root, "refusal"), ["refusal"]);
+        let all = crates_of(root, "gateway");
+        assert!(all.iter().any(|name| name == "root"));
+        assert!(all.iter().all(|name| name != "measured"));
+        assert!(newest_source(root, "gateway") >= newest_source(root, "root"));
+    }
+}

@@ -115,3 +115,63 @@ pub fn elementary(repeats: usize) {
     let steps = each(oracle::exp_steps);
     line(repeats, name, &exponents, &exponentials, &steps);
 }
+
+#[cfg(test)]
+mod tests {
+    use super::*;
+
+    /// Any bit patterns, and the corners of the range.
+    fn patterns() -> Vec<f64> {
+        let mut g = Rng::new(11);
+        let corners = [
+            0.0,
+            -0.0,
+            -1.0,
+            5e-324,
+            f64::MIN_POSITIVE,
+            f64::MIN_POSITIVE.next_down(),
+            1.0f64.next_down(),
+            1.0,
+            1.0f64.next_up(),
+            4.0f64.next_down(),
+            f64::MAX,
+            f64::INFINITY,
+            f64::NEG_INFINITY,
+            f64::NAN,
+        ];
+        let any = (0..200_000).map(|_| f64::from_bits(g.bits()));
+        corners.into_iter().chain(any).collect()
+    }
+
+    fn same(ours: f64, theirs: f64) -> bool {
+        ours.to_bits() == theirs.to_bits() || (ours.is_nan() && theirs.is_nan())
+    }
+
+    #[test]
+    fn roots_are_the_processor_s() {
+        let values = patterns();
+        let mut ours = values.clone();
+        roots(&mut ours);
+        for (ours, v) in ours.iter().zip(values) {
+            assert!(same(*ours, v.sqrt()), "root of {v:e}");
+        }
+    }
+
+    #[test]
+    fn exponentials_are_those_of_the_steps() {
+        let mut g = Rng::new(12);
+        let near = (0..200_000).map(|_| -750.0 * g.unit());
+        let values: Vec<f64> = patterns().into_iter().chain(near).collect();
+        let mut ours = values.clone();
+        exponentials(&mut ours);
+        for (ours, v) in ours.iter().zip(values) {
+            // Above zero there is none.
+            let theirs = if v <= 0.0 {
+                oracle::exp_steps(v)
+            } else {
+                f64::NAN
+            };
+            assert!(same(*ours, theirs), "exponential of {v:e}");
+        }
+    }
+}

@@ -120,3 +120,17 @@ pub fn stacks() {
         }
     }
 }
+
+#[cfg(test)]
+mod tests {
+    use super::*;
+
+    #[test]
+    fn a_fit_takes_little_stack() {
+        // Its decoded numbers alone are 86,016 bytes.
+        for kind in 0..4 {
+            let bytes = fit_bytes(&job(16, 7, 0, kind));
+            assert!((86_016..131_072).contains(&bytes), "{bytes} bytes");
+        }
+    }
+}
