@@ -7,8 +7,9 @@ set -eu
 cd "$(dirname "$0")/.."
 work=target/fuzz
 archive=target/staticlib/libgateway.a
+found=$work/found
 faults=15
-mkdir -p "$work/corpus" "$work/found"
+mkdir -p "$work/corpus" "$found"
 
 # Whether clang can link a target.
 can_build() {
@@ -29,7 +30,7 @@ run() {
     local target=$1 seconds=$2
     shift 2
     "$target" -max_total_time="$seconds" -max_len=1024 -len_control=0 -timeout=25 -print_final_stats=1 \
-        -artifact_prefix="$work/found/" "$@" >"$work/log" 2>&1
+        -artifact_prefix="$found/" "$@" >"$work/log" 2>&1
 }
 
 executions() { sed -n 's/^stat::number_of_executed_units: *//p' "$work/log"; }
@@ -37,7 +38,8 @@ executions() { sed -n 's/^stat::number_of_executed_units: *//p' "$work/log"; }
 what() { grep -m 1 -oE 'FOUND: .*|AddressSanitizer: [a-zA-Z-]+|runtime error: .*|libFuzzer: [a-z-]+' "$work/log" || echo 'see target/fuzz/log'; }
 
 planted() {
-    local fault missed=0
+    local fault missed=0 found=$work/planted.found
+    mkdir -p "$found"
     for fault in $(seq "$faults"); do
         clang -std=c11 -O1 -Wall -Wextra -Werror "-DPLANTED=$fault" -Irust/gateway/include -c fuzz/planted.c -o "$work/planted.o"
         build "$work/planted" -Dzescolumba_fit=planted_fit -Dzescolumba_weight=planted_weight "$work/planted.o"
@@ -48,7 +50,7 @@ planted() {
             echo "fault $fault: noticed after $(executions) executions ($(what))"
         fi
     done
-    rm -rf "$work/found"
+    rm -rf "$found"
     return "$missed"
 }
 
@@ -88,6 +90,6 @@ build "$work/target"
 if run "$work/target" "${1:-60}" "$work/corpus"; then
     echo "$(executions) executions, nothing found"
 else
-    echo "$(executions) executions, and found: $(what); the input lies in $work/found, what was said in $work/log"
+    echo "$(executions) executions, and found: $(what); the input lies in $found, what was said in $work/log"
     exit 1
 fi
