@@ -3,18 +3,7 @@
 # as one, and not at all where 000 is not at hand, which it says in one line. Run it after the proofs: it links what they wrote.
 set -u
 cd "$(dirname "$0")/../rust" || exit 2
-passed=0
-failed=0
-
-note() { # note STATUS NAME
-    if [ "$1" -eq 0 ]; then passed=$((passed + 1)); else failed=$((failed + 1)); echo "FAILED: $2"; fi
-}
-
-verdict() {
-    echo "$passed passed, $failed failed"
-    [ "$failed" -eq 0 ]
-    exit
-}
+. ../scripts/count.sh
 
 if ! command -v cargo >/dev/null; then
     note 1 "no command cargo: the Rust tests and the comparison with 000 did not run"

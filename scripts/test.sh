@@ -4,12 +4,7 @@
 # The last line is 'N passed, M failed', and the exit status says whether M is 0.
 set -u
 cd "$(dirname "$0")/.." || exit 2
-passed=0
-failed=0
-
-note() { # note STATUS NAME
-    if [ "$1" -eq 0 ]; then passed=$((passed + 1)); else failed=$((failed + 1)); echo "FAILED: $2"; fi
-}
+. scripts/count.sh
 
 rt fmt --check >/dev/null 2>&1
 note $? "rt fmt --check"
@@ -39,6 +34,4 @@ for job in tests/listings/*.job; do
 done
 
 run bash scripts/rust.sh
-
-echo "$passed passed, $failed failed"
-[ "$failed" -eq 0 ]
+verdict

@@ -7,7 +7,7 @@ use std::{env, fs, process};
 const MODULE: &str = "crates/oxigeo-analytics/src/regression/gwr.rs";
 
 /// What is replaced, by what, and how many places must have it.
-const SUBSTITUTIONS: [(&str, &str, usize); 8] = [
+const REPLACED: [(&str, &str, usize); 4] = [
     // Items that are included in a module cannot have inner documentation.
     ("//!", "//", 30),
     (
@@ -20,22 +20,37 @@ const SUBSTITUTIONS: [(&str, &str, usize); 8] = [
         "use crate::support::{Array1, Array2};",
         1,
     ),
-    (".exp()", ".exp_steps()", 2),
-    (".ln()", ".ln_steps()", 2),
-    // The head of `solve_local` counts the solve and begins its row; its end keeps the row, for a fit that fails later.
-    (
-        "    let n = y.len();\n\n    // Kernel weights for every observation relative to location i.",
-        "    crate::support::begin_solve(i);\n    let n = y.len();\n",
-        1,
-    ),
-    (
-        "    Ok((beta, predicted, residual, local_r2, leverage))\n}",
-        "    crate::support::end_solve(&beta, predicted, residual, local_r2);\n    Ok((beta, predicted, residual, local_r2, leverage))\n}",
-        1,
-    ),
-    // Line ends are single line feeds, as the texts above have them.
+    // Line ends are single line feeds, as the texts below have them.
     ("\r", "", 0),
 ];
+
+/// The same, of the text that has 01's steps in place of the platform's exp and ln.
+const STEPS: [(&str, &str, usize); 2] =
+    [(".exp()", ".exp_steps()", 2), (".ln()", ".ln_steps()", 2)];
+
+/// Calls, and the lines that they are put before: the head of `solve_local` counts the solve and begins its row, its end keeps
+/// the row, for a fit that fails later.
+const INSERTED: [(&str, &str); 2] = [
+    (
+        "crate::support::begin_solve(i);",
+        "    let n = y.len();\n\n    // Kernel weights for every observation relative to location i.",
+    ),
+    (
+        "crate::support::end_solve(&beta, predicted, residual, local_r2);",
+        "    Ok((beta, predicted, residual, local_r2, leverage))\n}",
+    ),
+];
+
+/// Puts one text in another's places, of which there must be so many.
+fn replace(text: &mut String, from: &str, to: &str, places: usize) {
+    let found = text.matches(from).count();
+    if found != places {
+        stop(&format!(
+            "{MODULE}: {found} places have {from:?} where {places} were expected"
+        ));
+    }
+    *text = text.replace(from, to);
+}
 
 /// `GWR_SRC`, or the first `shared/docs/src` beside the repository or further up.
 fn source() -> Option<PathBuf> {
@@ -71,17 +86,17 @@ fn main() {
         Ok(text) => text,
         Err(e) => stop(&format!("cannot read {}: {e}", file.display())),
     };
-    for (from, to, places) in SUBSTITUTIONS {
-        let found = text.matches(from).count();
-        if found != places {
-            stop(&format!(
-                "{}: {found} places have {from:?} where {places} were expected",
-                file.display()
-            ));
-        }
-        text = text.replace(from, to);
+    for (from, to, places) in REPLACED {
+        replace(&mut text, from, to, places);
+    }
+    for (call, line) in INSERTED {
+        replace(&mut text, line, &format!("    {call}\n{line}"), 1);
     }
     let out = PathBuf::from(env::var_os("OUT_DIR").expect("cargo sets OUT_DIR"));
-    fs::write(out.join("gwr.rs"), text).expect("OUT_DIR can be written");
+    fs::write(out.join("platform.rs"), &text).expect("OUT_DIR can be written");
+    for (from, to, places) in STEPS {
+        replace(&mut text, from, to, places);
+    }
+    fs::write(out.join("steps.rs"), text).expect("OUT_DIR can be written");
     println!("cargo::rustc-cfg=gwr_source");
 }

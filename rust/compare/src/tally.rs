@@ -1,7 +1,8 @@
 //! Runs jobs on both sides and counts.
 
+use compare::proved;
 use gateway::{GwrBandwidth, GwrKernel, GwrOptions, Refusal, gwr_fit};
-use oracle::{Answer, FILL, Job, bytes, reals};
+use oracle::{FILL, Job, bytes, reals};
 use std::io::{IsTerminal, Write};
 use std::time::{Duration, Instant};
 
@@ -23,39 +24,9 @@ pub struct Tally {
     shown: Instant,
 }
 
-/// What the proved code answers to a job, and the bytes after it.
-pub fn proved(job: &Job) -> Answer {
-    let mut out = vec![FILL; job.out_len];
-    let mut summary = vec![FILL; job.summary_len];
-    let number = gateway::bytes::fit(
-        &job.coords,
-        &job.x,
-        &job.y,
-        job.p,
-        job.kernel,
-        job.kind,
-        job.bandwidth,
-        &mut out,
-        &mut summary,
-    );
-    Answer {
-        number,
-        out,
-        summary,
-    }
-}
-
 /// What the safe crate answers to a job, as the bytes of the output and the summary.
 fn safe_answer(job: &Job) -> Result<(Vec<u8>, Vec<u8>), Refusal> {
-    let p = job.p as usize;
-    let coords: Vec<(f64, f64)> = reals(&job.coords)
-        .chunks_exact(2)
-        .map(|c| (c[0], c[1]))
-        .collect();
-    let x = reals(&job.x);
-    let x: Vec<Vec<f64>> = (0..coords.len())
-        .map(|i| x[i * p..(i + 1) * p].to_vec())
-        .collect();
+    let (coords, x) = job.places_and_rows();
     let kernels = [
         GwrKernel::Gaussian,
         GwrKernel::Bisquare,

@@ -1,7 +1,8 @@
 //! The other side of the comparison: what 000 answers to a job of the byte calls, where 000 has an answer, and what 01 says
 //! where it has none (limits, byte lengths, unknown numbers, output too short).
 //!
-//! 000 is taken at build time from the folder of source documents (see build.rs). Without it [`AVAILABLE`] is false.
+//! 000 is taken at build time from the folder of source documents (see build.rs), twice: with 01's steps for exp and ln
+//! ([`steps`]), which is what is compared, and with the platform's ([`platform`]), for times. Without it [`AVAILABLE`] is false.
 
 #![forbid(unsafe_code)]
 
@@ -9,11 +10,8 @@ pub mod generate;
 #[cfg_attr(not(gwr_source), allow(dead_code))]
 mod support;
 
-#[cfg(gwr_source)]
-#[allow(dead_code, missing_docs, clippy::all)]
-mod gwr {
-    include!(concat!(env!("OUT_DIR"), "/gwr.rs"));
-}
+pub use steps::{fit, weight};
+pub use support::exp_steps;
 
 /// Whether 000 was there when this crate was built.
 pub const AVAILABLE: bool = cfg!(gwr_source);
@@ -117,6 +115,19 @@ impl Job {
         all
     }
 
+    /// The places as pairs, and the predictors as rows, of a job of right byte lengths.
+    pub fn places_and_rows(&self) -> (Vec<(f64, f64)>, Vec<Vec<f64>>) {
+        let p = self.p as usize;
+        let coords: Vec<(f64, f64)> = reals(&self.coords)
+            .chunks_exact(2)
+            .map(|c| (c[0], c[1]))
+            .collect();
+        let x = reals(&self.x);
+        let rows = (0..coords.len()).map(|i| x[i * p..(i + 1) * p].to_vec());
+        let rows = rows.collect();
+        (coords, rows)
+    }
+
     /// 01's refusals 18 and 1 to 6, of numbers and byte lengths; 000 has no bytes, and no limits.
     fn refused_by_length(&self) -> Option<u32> {
         let n = self.n();
@@ -187,80 +198,101 @@ pub struct Fitted {
     pub solves: u64,
 }
 
-/// Runs 000 on a job of right byte lengths and known numbers.
-#[cfg(gwr_source)]
-pub fn fit(job: &Job) -> Fitted {
-    let p = job.p as usize;
-    let coords: Vec<(f64, f64)> = reals(&job.coords)
-        .chunks_exact(2)
-        .map(|c| (c[0], c[1]))
-        .collect();
-    let flat = reals(&job.x);
-    let x: Vec<Vec<f64>> = (0..coords.len())
-        .map(|i| flat[i * p..(i + 1) * p].to_vec())
-        .collect();
-    let options = gwr::GwrOptions {
-        kernel: kernel(job.kernel),
-        bandwidth: if job.kind.is_multiple_of(2) {
-            gwr::GwrBandwidth::Fixed(f64::from_bits(job.bandwidth))
-        } else {
-            gwr::GwrBandwidth::AdaptiveKnn(job.bandwidth as usize)
-        },
-        optimize_bandwidth: job.kind >= 2,
-    };
-    support::take_record();
-    let result = gwr::gwr_fit(&coords, &x, &reals(&job.y), &options);
-    let record = support::take_record();
-    match result {
-        Ok(result) => {
-            let rows = (0..coords.len()).flat_map(|i| {
-                let last = [result.predicted[i], result.residuals[i], result.local_r2[i]];
-                result.coefficients[i].iter().copied().chain(last)
-            });
-            Fitted {
-                number: 0,
-                rows: rows.collect(),
-                bandwidth: result.bandwidth,
-                aicc: result.aicc,
-                solves: record.solves,
+/// A module that runs 000, by the text of this name that build.rs wrote.
+macro_rules! side {
+    ($(#[$text:meta])* $name:ident, $file:literal) => {
+        $(#[$text])*
+        #[cfg(gwr_source)]
+        pub mod $name {
+            use crate::{Fitted, Job, reals, support};
+
+            #[allow(dead_code, missing_docs, unused_imports, clippy::all)]
+            mod gwr {
+                include!(concat!(env!("OUT_DIR"), $file));
+            }
+
+            /// Runs 000 on a job of right byte lengths and known numbers.
+            pub fn fit(job: &Job) -> Fitted {
+                let (coords, x) = job.places_and_rows();
+                let options = gwr::GwrOptions {
+                    kernel: kernel(job.kernel),
+                    bandwidth: if job.kind.is_multiple_of(2) {
+                        gwr::GwrBandwidth::Fixed(f64::from_bits(job.bandwidth))
+                    } else {
+                        gwr::GwrBandwidth::AdaptiveKnn(job.bandwidth as usize)
+                    },
+                    optimize_bandwidth: job.kind >= 2,
+                };
+                support::take_record();
+                let result = gwr::gwr_fit(&coords, &x, &reals(&job.y), &options);
+                let record = support::take_record();
+                match result {
+                    Ok(result) => {
+                        let rows = (0..coords.len()).flat_map(|i| {
+                            let last =
+                                [result.predicted[i], result.residuals[i], result.local_r2[i]];
+                            result.coefficients[i].iter().copied().chain(last)
+                        });
+                        Fitted {
+                            number: 0,
+                            rows: rows.collect(),
+                            bandwidth: result.bandwidth,
+                            aicc: result.aicc,
+                            solves: record.solves,
+                        }
+                    }
+                    Err(e) => Fitted {
+                        number: e.0,
+                        rows: record.rows,
+                        bandwidth: 0.0,
+                        aicc: 0.0,
+                        solves: record.solves,
+                    },
+                }
+            }
+
+            fn kernel(number: u64) -> gwr::GwrKernel {
+                match number {
+                    0 => gwr::GwrKernel::Gaussian,
+                    1 => gwr::GwrKernel::Bisquare,
+                    _ => gwr::GwrKernel::Exponential,
+                }
+            }
+
+            /// 000's weight by the kernel of this number, 0 to 2.
+            pub fn weight(number: u64, d: f64, b: f64) -> f64 {
+                kernel(number).weight(d, b)
             }
         }
-        Err(e) => Fitted {
-            number: e.0,
-            rows: record.rows,
-            bandwidth: 0.0,
-            aicc: 0.0,
-            solves: record.solves,
-        },
-    }
+
+        $(#[$text])*
+        #[cfg(not(gwr_source))]
+        pub mod $name {
+            use crate::{Fitted, Job, MISSING};
+
+            /// Without 000 there is nothing to run.
+            pub fn fit(_: &Job) -> Fitted {
+                panic!("{MISSING}")
+            }
+
+            /// Without 000 there is nothing to run.
+            pub fn weight(_: u64, _: f64, _: f64) -> f64 {
+                panic!("{MISSING}")
+            }
+        }
+    };
 }
 
-/// Without 000 there is nothing to run.
-#[cfg(not(gwr_source))]
-pub fn fit(_: &Job) -> Fitted {
-    panic!("{MISSING}")
-}
-
-#[cfg(gwr_source)]
-fn kernel(number: u64) -> gwr::GwrKernel {
-    match number {
-        0 => gwr::GwrKernel::Gaussian,
-        1 => gwr::GwrKernel::Bisquare,
-        _ => gwr::GwrKernel::Exponential,
-    }
-}
-
-/// 000's weight by the kernel of this number, 0 to 2.
-#[cfg(gwr_source)]
-pub fn weight(number: u64, d: f64, b: f64) -> f64 {
-    kernel(number).weight(d, b)
-}
-
-/// Without 000 there is nothing to run.
-#[cfg(not(gwr_source))]
-pub fn weight(_: u64, _: f64, _: f64) -> f64 {
-    panic!("{MISSING}")
-}
+side!(
+    /// 000 with 01's steps for exp and ln.
+    steps,
+    "/steps.rs"
+);
+side!(
+    /// 000 with the platform's exp and ln.
+    platform,
+    "/platform.rs"
+);
 
 /// What the weight call must answer to numbers of these bits, with `room` bytes lent: the refusal's number and the bytes after.
 pub fn expected_weight(kernel: u64, d: u64, b: u64, room: usize) -> (u32, Vec<u8>) {

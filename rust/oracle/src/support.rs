@@ -163,6 +163,11 @@ pub fn take_record() -> Record {
     RECORD.take()
 }
 
+/// exp of a number that is not above zero, by the steps of 01.
+pub fn exp_steps(v: f64) -> f64 {
+    v.exp_steps()
+}
+
 const HI: f64 = f64::from_bits(0x3FE6_2E42_FEE0_0000);
 const LO: f64 = f64::from_bits(0x3DEA_39EF_3579_3C76);
 const INV: f64 = f64::from_bits(0x3FF7_1547_652B_82FE);

@@ -1,0 +1,14 @@
+# For sourcing: counts what passed and failed, and says it in the last line.
+passed=0
+failed=0
+
+note() { # note STATUS NAME
+    if [ "$1" -eq 0 ]; then passed=$((passed + 1)); else failed=$((failed + 1)); echo "FAILED: $2"; fi
+}
+
+# Ends the script.
+verdict() {
+    echo "$passed passed, $failed failed"
+    [ "$failed" -eq 0 ]
+    exit
+}
