@@ -1,1 +1,2 @@
 pub mod Mapping
+pub mod Turning

@@ -1,9 +1,14 @@
-// Square roots and exponentials of many numbers in place, with C linkage, so that a timing of one has no call's cost in it.
-// Only rust/bench links it.
+// What rust/bench times and no other call shows, with C linkage: square roots and exponentials of many numbers in place, so that
+// a timing of one has no call's cost in it, and the turns of a job. Only rust/bench links it.
 ghost use mathlib.Core.Path.{_≡_};
 ghost use mathlib.Core.List.{map};
 ghost use Rattle.root.specs.Root.{root};
 ghost use Rattle.elementary.specs.Exp.{expv};
+ghost use Rattle.measured.specs.Turns.{kernelBy, playOf, turnsOf};
+use job::Job;
+use kernel::GwrKernel;
+use neighbours::GwrBandwidth;
+use plan::GwrOptions;
 
 // Each number becomes its square root.
 #[no_mangle]
@@ -23,4 +28,61 @@ pub extern "C" fn zescolumba_exponentials(values: &mut [f64])
     for i in 0..values.len() {
         values[i] = elementary::exp(values[i]);
     }
+}
+
+fn kernel_by(number: u32) -> GwrKernel
+    ensures { λ r. ⌜ r ≡ kernelBy number ⌝ }
+{
+    if number == 0 {
+        return GwrKernel::Gaussian;
+    }
+    if number == 1 {
+        return GwrKernel::Bisquare;
+    }
+    GwrKernel::Exponential
+}
+
+// The job after so many turns of one allowance.
+fn play(
+    j: Job,
+    coords: &[f64],
+    x: &[f64],
+    y: &[f64],
+    out: &mut [f64],
+    allowance: u32,
+    turns: u32,
+) -> Job
+    ensures { λ r. ⌜ (r, now (out .exit)) ≡ playOf (now (coords .entry)) (now (x .entry)) (now (y .entry)) allowance turns (j, now (out .entry)) ⌝ }
+{
+    let mut k = j;
+    for i in 0..turns {
+        let t = job::turn(k, coords, x, y, &mut *out, allowance);
+        k = t.job;
+    }
+    k
+}
+
+// Begins an unsearched job at the bandwidth distance 400 and takes it through so many turns; answers the solves that it has made.
+#[no_mangle]
+pub extern "C" fn zescolumba_turns(
+    coords: &[f64],
+    x: &[f64],
+    y: &[f64],
+    p: usize,
+    kernel: u32,
+    out: &mut [f64],
+    allowance: u32,
+    turns: u32,
+) -> u64
+    ensures { λ r. ⌜ (r, now (out .exit)) ≡ turnsOf (now (coords .entry)) (now (x .entry)) (now (y .entry)) p kernel allowance turns (now (out .entry)) ⌝ }
+{
+    let options = GwrOptions {
+        kernel: kernel_by(kernel),
+        bandwidth: GwrBandwidth::Fixed(400.0),
+        optimize_bandwidth: false,
+    };
+    let begun = job::begin(coords, x, y, p, options, &*out);
+    let first = begun.job;
+    let last = play(first, coords, x, y, out, allowance, turns);
+    last.solves
 }
