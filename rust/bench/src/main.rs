@@ -1,5 +1,5 @@
 //! Times of the proved code against 000, in the same run, and the stack that a fit takes: `bench [REPEATS] [TABLE..]`, with the
-//! tables `fits`, `growth`, `weights`, `elementary` and `stack`, all of them if none is named.
+//! tables `fits`, `growth`, `weights`, `elementary`, `turns` and `stack`, all of them if none is named.
 //!
 //! Each line has the medians of the sides and their ratios (proved by the other; below 1 the proved code is faster).
 
@@ -7,6 +7,7 @@ mod fits;
 mod single;
 mod stack;
 mod timing;
+mod turns;
 
 use std::process::ExitCode;
 
@@ -21,11 +22,12 @@ fn main() -> ExitCode {
         words.remove(0);
     }
     let repeats: usize = given.unwrap_or(7).max(1);
-    let tables: [(&str, &dyn Fn()); 5] = [
+    let tables: [(&str, &dyn Fn()); 6] = [
         ("fits", &|| fits::fits(repeats)),
         ("growth", &|| fits::growth(repeats)),
         ("weights", &|| single::weights(9 * repeats)),
         ("elementary", &|| single::elementary(3 * repeats)),
+        ("turns", &|| turns::turns(repeats)),
         ("stack", &stack::stacks),
     ];
     if let Some(unknown) = words.iter().find(|w| tables.iter().all(|t| t.0 != **w)) {
