@@ -25,7 +25,8 @@ run() {
 }
 
 mkdir -p target
-run rt ci
+# Four at a time, so that no processor waits for the longer of two must-fail edits.
+RT_JOBS=${RT_JOBS:-4} run rt ci
 
 for job in tests/listings/*.job; do
     [ -e "$job" ] || continue
