@@ -2,6 +2,7 @@
 
 use crate::fits::{KERNELS, job};
 use crate::timing::{medians, microseconds};
+use oracle::reals;
 use std::hint::black_box;
 
 mod linked {
@@ -33,18 +34,13 @@ struct Lent {
     out: Vec<f64>,
 }
 
-fn numbers(bytes: &[u8]) -> Vec<f64> {
-    let (eights, _) = bytes.as_chunks::<8>();
-    eights.iter().map(|b| f64::from_le_bytes(*b)).collect()
-}
-
 impl Lent {
     fn new(n: u64, p: u64, kernel: u32) -> Self {
         let job = job(n, p, u64::from(kernel), 0);
         Lent {
-            coords: numbers(&job.coords),
-            x: numbers(&job.x),
-            y: numbers(&job.y),
+            coords: reals(&job.coords),
+            x: reals(&job.x),
+            y: reals(&job.y),
             p: p as usize,
             kernel,
             out: vec![0.0; (n * (p + 4)) as usize],
