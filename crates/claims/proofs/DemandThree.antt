@@ -22,7 +22,7 @@ use Rattle.job.specs.declared.Beginning.the-variants as beginning
 use Rattle.job.specs.Step.{overOf}
 use Rattle.job.specs.Turn.{setupOf, begunWith, beginOf, answerAt}
 use Rattle.claims.specs.Whole.{endedWith, finalBandwidth, searchSolves, Scored, trialsOf, Earliest}
-use Rattle.claims.specs.Claim as claim
+use Rattle.claims.specs.DemandThree as claim
 use Rattle.claims.specs.Turns.{State, Turn, settled, play, AllLawful, granted}
 use Rattle.claims.proofs.Leading.{leads-on}
 use Rattle.claims.proofs.Fitting.{foundBandwidth, foundSolves, plan-ends, plan-final}

@@ -1,3 +1,5 @@
 pub mod Whole
 pub mod Turns
-pub mod Claim
+pub mod Conditions
+pub mod DemandOne
+pub mod DemandThree
