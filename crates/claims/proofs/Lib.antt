@@ -17,3 +17,4 @@ pub mod DemandThree
 pub mod Deciding
 pub mod Called
 pub mod DemandOne
+pub mod DemandTwo

@@ -2,4 +2,5 @@ pub mod Whole
 pub mod Turns
 pub mod Conditions
 pub mod DemandOne
+pub mod DemandTwo
 pub mod DemandThree
