@@ -18,3 +18,4 @@ pub mod Deciding
 pub mod Called
 pub mod DemandOne
 pub mod DemandTwo
+pub mod Examples

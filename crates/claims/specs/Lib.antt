@@ -4,3 +4,4 @@ pub mod Conditions
 pub mod DemandOne
 pub mod DemandTwo
 pub mod DemandThree
+pub mod Examples
