@@ -19,3 +19,4 @@ pub mod Called
 pub mod DemandOne
 pub mod DemandTwo
 pub mod Examples
+pub mod Played

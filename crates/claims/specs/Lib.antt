@@ -5,3 +5,4 @@ pub mod DemandOne
 pub mod DemandTwo
 pub mod DemandThree
 pub mod Examples
+pub mod Played
