@@ -76,6 +76,7 @@ near-played =
       ready = near-ready;
       trials = refl;
       count = refl;
+      tried = refl;
       lawful = near-lawful;
       sum = refl;
       answers = refl;

@@ -84,6 +84,7 @@ pub record NearPlayed : Type 0 where
   pub ready : beginOf nearPlaces [] nearLoads 0 nearOptions (length nearOut) .answer ≡ beginning.Ready
   pub trials : length (claim.trials nearPlaces [] nearLoads 0 nearOptions nearOut) ≡ 4
   pub count : claim.count nearPlaces [] nearLoads 0 nearOptions nearOut ≡ 10
+  pub tried : play nearPlaces [] nearLoads nearTurns nearBegun .0 .0 .trials ≡ 4
   pub lawful : AllLawful nearPlaces [] nearLoads nearTurns nearBegun
   pub sum : granted nearTurns nearResults ≡ 109
   pub answers : told nearResults
