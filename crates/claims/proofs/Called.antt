@@ -19,6 +19,11 @@ use Rattle.kernel.specs.declared.GwrKernel.{GwrKernel}
 use Rattle.kernel.specs.declared.GwrKernel.the-variants.{Gaussian, Bisquare, Exponential}
 use Rattle.kernel.specs.declared.Weighed.the-variants as weight
 use Rattle.kernel.specs.Weight.{weightOf, weighed}
+use Rattle.neighbours.specs.declared.GwrBandwidth.{GwrBandwidth}
+use Rattle.normal.specs.Data.{Data}
+use Rattle.local.specs.declared.Outcome.{Outcome}
+use Rattle.local.specs.declared.Outcome.the-variants as outcome
+use Rattle.local.specs.Solve.{solveLocation}
 use Rattle.criterion.specs.declared.Summary.{Summary}
 use Rattle.plan.specs.declared.Check.{Check}
 use Rattle.plan.specs.declared.Check.the-variants as check
@@ -27,7 +32,7 @@ use Rattle.plan.specs.Checks.{judge}
 use Rattle.gwr.specs.declared.FitAnswer.{FitAnswer}
 use Rattle.gwr.specs.declared.FitAnswer.the-variants as fit
 use Rattle.gwr.specs.declared.Fit.{Fit}
-use Rattle.gwr.specs.Fit.{fitOf}
+use Rattle.gwr.specs.Fit.{jobData, fitOf}
 use Rattle.wire.specs.Wire.{bytesOf, bitsOf, realOf, reals, realBytes, placed}
 use Rattle.wire.proofs.Placed.{length-placed}
 use Rattle.wire.proofs.Numbers.{length-bytesOf}
@@ -40,11 +45,12 @@ use Rattle.calls.specs.declared.Choice.the-variants as choice
 use Rattle.calls.specs.Options.{kernelOf, kindOf, optionsWith, optionsOf}
 use Rattle.calls.specs.Calls.{After, partTests, byteTests, roomOf, refused, summaryBytes, written, answerBytes, fitted, fitParts, checked, chosenBytes, fitBytes, weightPlaced, weightRoom, weightWith, weightBytes}
 use Rattle.claims.specs.Conditions.{Condition, when, None, First-of, Decides, named, valueConditions, optionConditions, inputConditions, byteConditions, weightConditions}
-use Rattle.claims.specs.DemandOne.{AtLocation, FitAnswered, BytesServed, WeightRefused, WeightServed}
+use Rattle.claims.specs.DemandOne.{FitAnswered, BytesServed, WeightRefused, WeightServed}
 use Rattle.claims.proofs.Cases.{either, never}
 use Rattle.claims.proofs.Judged.{Says, AllTell, judged, decides, tells, equal-tells, differ-tells, below-tells}
 use Rattle.claims.proofs.Accepting.{tests, input-says}
-use Rattle.claims.proofs.Deciding.{fit-refused, fit-passed, distance-tells}
+use Rattle.claims.proofs.Deciding.{final, fit-refused, fit-passed, distance-tells}
+use Rattle.claims.proofs.Solved.{AtLocation, OutcomeAt, location-at}
 
 -- ---- bytes behind those that are placed
 
@@ -70,18 +76,25 @@ location-number r (inl e) = in-range r Singular e (omega arith, omega arith)
 location-number r (inr (inl e)) = in-range r InverseNotFinite e (omega arith, omega arith)
 location-number r (inr (inr e)) = in-range r CoefficientNotFinite e (omega arith, omega arith)
 
-met-number : (r : Refusal) (rows n : ℕ) → (AtLocation r × (rows < n)) ⊎ ((r ≡ DeviationNotFinite) × (rows ≡ n)) → (14 ≤ refusalNumber r) × (refusalNumber r ≤ 17)
-met-number r rows n (inl h) = location-number r (h .0)
-met-number r rows n (inr h) = in-range r DeviationNotFinite (h .0) (omega arith, omega arith)
+module _ (d : Data) (k : GwrKernel) (b : GwrBandwidth) where
+  abbrev solve : ℕ → Outcome
+  solve i = solveLocation d k b i .outcome
 
-rows-few : (a : FitAnswer) (rows n : ℕ) → FitAnswered a rows n → rows ≤ n
-rows-few (fit.Fitted s) rows n h = omega arith
-rows-few (fit.Failed r s) rows n h = met-few (h .0)
-  where
-    met-few : (AtLocation r × (rows < n)) ⊎ ((r ≡ DeviationNotFinite) × (rows ≡ n)) → rows ≤ n
-    met-few (inl h) = omega (arith, h .1)
-    met-few (inr h) = omega (arith, h .1)
-rows-few (fit.Rejected r) rows n h = absurd h
+  abbrev MetIn : Refusal → ℕ → ℕ → Type 0
+  MetIn r rows n = ((rows < n) × (solve rows ≡ outcome.Refused r)) ⊎ ((rows ≡ n) × (r ≡ DeviationNotFinite))
+
+  met-number : (r : Refusal) (rows n : ℕ) → MetIn r rows n → (14 ≤ refusalNumber r) × (refusalNumber r ≤ 17)
+  met-number r rows n (inl h) = location-number r (subst OutcomeAt (h .1) (location-at d k b rows))
+  met-number r rows n (inr h) = in-range r DeviationNotFinite (h .1) (omega arith, omega arith)
+
+  rows-few : (a : FitAnswer) (rows n : ℕ) → FitAnswered a solve rows n → rows ≤ n
+  rows-few (fit.Fitted s) rows n h = omega arith
+  rows-few (fit.Failed r s) rows n h = met-few (h .0)
+    where
+      met-few : MetIn r rows n → rows ≤ n
+      met-few (inl h) = omega (arith, h .0)
+      met-few (inr h) = omega (arith, h .0)
+  rows-few (fit.Rejected r) rows n h = absurd h
 
 summary-long : (v : Summary) → length (summaryBytes v) ≡ 24
 unfolding summaryBytes
@@ -102,15 +115,16 @@ module _ (n p : ℕ) (out summary : List ℕ) (room : 8 * (n * (p + 4)) ≤ leng
         long = (length-placed out 0 (realBytes rows) (omega (arith, r, few, room)), length-placed summary 0 (summaryBytes v) (omega (arith, s, whole)));
       }
 
-  answer-served : (a : FitAnswer) (k : ℕ) (rows : List Float) → FitAnswered a k n → length rows ≤ n * (p + 4) → BytesServed n p out summary (answerBytes a rows out summary)
-  answer-served (fit.Fitted v) k rows h few = written-served 0 rows v (inl refl) few
-  answer-served (fit.Failed r v) k rows h few = written-served (refusalNumber r) rows v (inr (met-number r k n (h .0))) few
-  answer-served (fit.Rejected r) k rows h few = absurd h
+  module _ (d : Data) (g : GwrKernel) (b : GwrBandwidth) where
+    answer-served : (a : FitAnswer) (k : ℕ) (rows : List Float) → FitAnswered a (solve d g b) k n → length rows ≤ n * (p + 4) → BytesServed n p out summary (answerBytes a rows out summary)
+    answer-served (fit.Fitted v) k rows h few = written-served 0 rows v (inl refl) few
+    answer-served (fit.Failed r v) k rows h few = written-served (refusalNumber r) rows v (inr (met-number d g b r k n (h .0))) few
+    answer-served (fit.Rejected r) k rows h few = absurd h
 
-  fitted-served : (f : Fit × List Float) → FitAnswered (f .0 .answer) (f .0 .rows) n → BytesServed n p out summary (fitted p f out summary)
-  fitted-served f h =
-      let rows : f .0 .rows * (p + 4) ≤ n * (p + 4) = mul-le-mul-right (p + 4) (rows-few (f .0 .answer) (f .0 .rows) n h) in
-      answer-served (f .0 .answer) (f .0 .rows) (take (f .0 .rows * (p + 4)) (f .1)) h (omega (arith, length-take (f .0 .rows * (p + 4)) (f .1), rows))
+    fitted-served : (f : Fit × List Float) → FitAnswered (f .0 .answer) (solve d g b) (f .0 .rows) n → BytesServed n p out summary (fitted p f out summary)
+    fitted-served f h =
+        let rows : f .0 .rows * (p + 4) ≤ n * (p + 4) = mul-le-mul-right (p + 4) (rows-few d g b (f .0 .answer) (f .0 .rows) n h) in
+        answer-served (f .0 .answer) (f .0 .rows) (take (f .0 .rows * (p + 4)) (f .1)) h (omega (arith, length-take (f .0 .rows * (p + 4)) (f .1), rows))
 
 -- ---- 18
 
@@ -324,11 +338,11 @@ module _ (coords x y : List ℕ) (p number kind : ℕ) (out summary : List ℕ) 
     abbrev inner : Check
     inner = judge (tests C X Y p (length Z) o)
 
-    abbrev outcome : Check → Check
-    outcome check.Pass = inner
-    outcome (check.Refused r) = check.Refused r
+    abbrev said : Check → Check
+    said check.Pass = inner
+    said (check.Refused r) = check.Refused r
 
-    says : (k : Check) → ((2 < number) ⊎ (3 < kind) → ⊥) → Says k lengthConditions → Says (outcome k) conditions
+    says : (k : Check) → ((2 < number) ⊎ (3 < kind) → ⊥) → Says k lengthConditions → Says (said k) conditions
     says check.Pass known h = says-later inner (when UnknownNumber ((2 < number) ⊎ (3 < kind))) (drop 1 conditions) known (says-same inner _ _ (same h) (input-says C X Y p (length Z) o))
     says (check.Refused r) known h = inr (known, first-more lengthConditions (drop 7 conditions) r h)
 
@@ -338,21 +352,23 @@ module _ (coords x y : List ℕ) (p number kind : ℕ) (out summary : List ℕ) 
     abbrev fitIs : Fit × List Float
     fitIs = fitOf C X Y p o Z
 
-    after-refused : (k : Check) (r : Refusal) → Says k lengthConditions → outcome k ≡ check.Refused r → after k ≡ (refusalNumber r, (out, summary))
+    after-refused : (k : Check) (r : Refusal) → Says k lengthConditions → said k ≡ check.Refused r → after k ≡ (refusalNumber r, (out, summary))
     unfolding fitParts
     after-refused check.Pass r h e =
         ap (λ (f : Fit × List Float). fitted p f out summary) (fit-refused C X Y p o Z r e)
     after-refused (check.Refused q) r h e = ap (λ (z : Check). after z) e
 
-    after-served : (k : Check) → ((2 < number) ⊎ (3 < kind) → ⊥) → Says k lengthConditions → outcome k ≡ check.Pass → BytesServed n p out summary (after k)
+    after-served : (k : Check) → ((2 < number) ⊎ (3 < kind) → ⊥) → Says k lengthConditions → said k ≡ check.Pass → BytesServed n p out summary (after k)
     unfolding fitParts
     after-served check.Pass known h e =
         let c : None conditions = subst (λ (k : Check). Says k conditions) e (says check.Pass known h) in
         let short : (length out < 8 * (n * (p + 4))) ⊎ (length summary < 24) → ⊥ = c .1 .1 .1 .1 .1 .1 .1 .1 .1 .1 .1 .0 in
         let rows : 8 * (n * (p + 4)) ≤ length out = not-below (λ k. short (inl k)) in
         let half : length C / 2 ≡ n = omega (arith, length-reals coords (2 * n)) in
-        fitted-served n p out summary rows (not-below (λ k. short (inr k))) fitIs
-        (subst (λ (m : ℕ). FitAnswered (fitIs .0 .answer) (fitIs .0 .rows) m) half (fit-passed C X Y p o Z e .answered))
+        let d = jobData C X Y p in
+        let b = final C X Y p o Z in
+        fitted-served n p out summary rows (not-below (λ k. short (inr k))) d (o .kernel) b fitIs
+        (subst (λ (m : ℕ). FitAnswered (fitIs .0 .answer) (solve d (o .kernel) b) (fitIs .0 .rows) m) half (fit-passed C X Y p o Z e .answered))
     after-served (check.Refused q) known h e = let z : _≡_ {A = ℕ} 0 1 = cc in absurd (omega arith)
 
   -- the whole call
@@ -373,7 +389,7 @@ module _ (coords x y : List ℕ) (p number kind : ℕ) (out summary : List ℕ) 
       let k = judge (byteTests (length coords) (length x) (length y) p) in
       let s = judged (byteTests (length coords) (length x) (length y) p) lengthConditions lengths-tell in
       let known : (2 < number) ⊎ (3 < kind) → ⊥ = within h in
-      decides _ (outcome o k) (says o k known s) _ _ (λ r e. after-refused o k r s e) (λ e. after-served o k known s e)
+      decides _ (said o k) (says o k known s) _ _ (λ r e. after-refused o k r s e) (λ e. after-served o k known s e)
     where
       within : (number ≤ 2) × (kind ≤ 3) → (2 < number) ⊎ (3 < kind) → ⊥
       within h (inl k) = omega (arith, h .0, k)

@@ -3,7 +3,7 @@ use mathlib.Core.Path.{_≡_, refl, ap, subst, subst⁻¹}
 use mathlib.Core.Bool.{Bool, true, false, cond, not}
 use mathlib.Core.List.{List, [], _∷_}
 use mathlib.Core.Logic.{_⊎_, inl, inr}
-use Prim.Native.Nat.{ℕ, _/_, _≤_}
+use Prim.Native.Nat.{ℕ, _+_, _*_, _/_, _≤_}
 use native.Mathlib.Omega.{arith}
 use borrow.Author.Tests.{not-true, not-false}
 use lib.Dec.{T}
@@ -16,6 +16,7 @@ use Rattle.refusal.specs.declared.Refusal.the-variants.{CoordinateNotFinite}
 use Rattle.kernel.specs.declared.GwrKernel.{GwrKernel}
 use Rattle.kernel.specs.declared.Weighed.the-variants as weight
 use Rattle.kernel.specs.Weight.{weightOf, weighed}
+use Rattle.neighbours.specs.declared.GwrBandwidth.{GwrBandwidth}
 use Rattle.plan.specs.declared.Check.the-variants as check
 use Rattle.plan.specs.declared.GwrOptions.{GwrOptions}
 use Rattle.plan.specs.declared.Plan.{Plan}
@@ -24,10 +25,11 @@ use Rattle.plan.specs.Checks.{judge}
 use Rattle.plan.specs.Plan.{acceptOf}
 use Rattle.plan.proofs.Acceptance.{settled-accepted, sought-accepted}
 use Rattle.gwr.specs.declared.FitAnswer.the-variants as fit
-use Rattle.gwr.specs.Fit.{soughtOf, planned, jobData, fitOf}
+use Rattle.gwr.specs.Fit.{planned, jobData, fitOf}
 use Rattle.gwr.proofs.Literal.{apart}
 use Rattle.job.specs.declared.Beginning.the-variants as beginning
 use Rattle.job.specs.Turn.{setupOf, begunWith, beginOf}
+use Rattle.claims.specs.Whole.{finalBandwidth, searchSolves}
 use Rattle.claims.specs.Turns.{AllLawful}
 use Rattle.claims.specs.Conditions.{when, Decides, FitRecord, inputConditions}
 use Rattle.claims.specs.DemandOne.{FitServed, BeginRefused, BeginServed}
@@ -59,30 +61,32 @@ module _ (coords x y : List Float) (p : ℕ) (o : GwrOptions) where
     unfolding beginOf
     begins h = ready (acceptOf coords x y p o (length out)) h
 
-    finished : (q : Plan) → acceptOf coords x y p o (length out) ≡ q → Good q → Finished n p out (planned q (jobData coords x y p) o out)
-    unfolding soughtOf
-    finished (plan.Refused r) e h = absurd h
-    finished (plan.Settled b) e h =
-        let a = settled-accepted coords x y p o (length out) b e .0 in
-        final-finished (jobData coords x y p) o b 0 out (a .room) (a .shaped .narrow)
-    finished (plan.Sought lo hi) e h =
-        let a = sought-accepted coords x y p o (length out) lo hi e in
-        final-finished (jobData coords x y p) o _ _ out (a .room) (a .shaped .narrow)
+    room-of : (q : Plan) → acceptOf coords x y p o (length out) ≡ q → Good q → (n * (p + 4) ≤ length out) × (p ≤ 7)
+    room-of (plan.Refused r) e h = absurd h
+    room-of (plan.Settled b) e h = let a = settled-accepted coords x y p o (length out) b e .0 in (a .room, a .shaped .narrow)
+    room-of (plan.Sought lo hi) e h = let a = sought-accepted coords x y p o (length out) lo hi e in (a .room, a .shaped .narrow)
 
-    fit-served : Good (acceptOf coords x y p o (length out)) → FitServed n p out (fitOf coords x y p o out)
-    unfolding fitOf AllLawful
+    -- the final bandwidth
+    abbrev pub final : GwrBandwidth
+    final = finalBandwidth (acceptOf coords x y p o (length out)) (jobData coords x y p) o
+
+    fit-served : Good (acceptOf coords x y p o (length out)) → FitServed (jobData coords x y p) o final out (fitOf coords x y p o out)
+    unfolding AllLawful
     fit-served h =
-        let f = finished (acceptOf coords x y p o (length out)) refl h in
-        record { answered = f .answered; untouched = f .untouched; long = f .long; solves = demand-three coords x y p o out (begins h) [] tt .bound }
+        let d = jobData coords x y p in
+        let z = demand-three coords x y p o out (begins h) [] tt in
+        let r = room-of (acceptOf coords x y p o (length out)) refl h in
+        let f = subst⁻¹ (Finished d o final out) (z .final) (final-finished d o final (searchSolves (acceptOf coords x y p o (length out)) d o) out (r .0) (r .1)) in
+        record { answered = f .answered; before = f .before; untouched = f .untouched; long = f .long; solves = z .bound }
 
     pub fit-refused : (r : Refusal) → judge (tests coords x y p (length out) o) ≡ check.Refused r → fitOf coords x y p o out ≡ (record { answer = fit.Rejected r; rows = 0 }, out)
     unfolding fitOf
     fit-refused r e = ap (λ (q : Plan). planned q (jobData coords x y p) o out) (accept-refused coords x y p (length out) o r e)
 
-    pub fit-passed : judge (tests coords x y p (length out) o) ≡ check.Pass → FitServed n p out (fitOf coords x y p o out)
+    pub fit-passed : judge (tests coords x y p (length out) o) ≡ check.Pass → FitServed (jobData coords x y p) o final out (fitOf coords x y p o out)
     fit-passed e = fit-served (accept-passed coords x y p (length out) o e)
 
-    pub fit-decides : Decides (inputConditions coords x y p o (length out)) (λ (r : Refusal). fitOf coords x y p o out ≡ (record { answer = fit.Rejected r; rows = 0 }, out)) (FitServed n p out (fitOf coords x y p o out))
+    pub fit-decides : Decides (inputConditions coords x y p o (length out)) (λ (r : Refusal). fitOf coords x y p o out ≡ (record { answer = fit.Rejected r; rows = 0 }, out)) (FitServed (jobData coords x y p) o final out (fitOf coords x y p o out))
     fit-decides = decides _ (judge (tests coords x y p (length out) o)) (input-says coords x y p (length out) o) _ _ fit-refused fit-passed
 
   -- the record that a refused beginning gives is unfit

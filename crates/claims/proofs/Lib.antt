@@ -11,6 +11,7 @@ pub mod Playing
 pub mod Best
 pub mod Rising
 pub mod Untouched
+pub mod Solved
 pub mod Served
 pub mod Turning
 pub mod DemandThree

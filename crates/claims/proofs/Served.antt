@@ -1,5 +1,5 @@
 -- What a fit that is not refused from the input answers, and which numbers of its output it leaves alone.
-use mathlib.Core.Path.{_≡_, refl, subst, subst⁻¹, _∙_}
+use mathlib.Core.Path.{_≡_, refl, ap, subst, subst⁻¹, _∙_}
 use mathlib.Core.List.{List}
 use mathlib.Core.Logic.{inl, inr}
 use Prim.Native.Nat.{ℕ, zero, suc, _+_, _*_, _-_, _≤_, _<_}
@@ -9,19 +9,14 @@ use lib.ListN.{length, drop}
 use lib.Ieee.{Float}
 use lib.Ieee.Scale.{finite}
 use Rattle.real.specs.Fold.{turns, range}
+use Rattle.real.proofs.SignedOrder.{here-or-on}
 use Rattle.kernel.specs.declared.GwrKernel.{GwrKernel}
 use Rattle.neighbours.specs.declared.GwrBandwidth.{GwrBandwidth}
 use Rattle.normal.specs.Data.{Data}
-use Rattle.local.specs.declared.Estimate.{Estimate}
-use Rattle.local.specs.declared.Estimate.the-variants as estimate
-use Rattle.local.specs.declared.Estimated.{Estimated}
 use Rattle.local.specs.declared.Values.{Values}
 use Rattle.local.specs.declared.Outcome.{Outcome}
 use Rattle.local.specs.declared.Outcome.the-variants as outcome
-use Rattle.local.specs.Inner.{Row, Matrix}
-use Rattle.local.specs.Estimate.{inverseFinite, coefficientsFinite, coefficientsOf, refusedWith, fromInverse, eliminatedOf}
-use Rattle.local.specs.Estimate as local
-use Rattle.local.specs.Solve.{outcomeOf, solvedUnder, solveLocal, solveLocation}
+use Rattle.local.specs.Solve.{solveLocation}
 use Rattle.local.specs.Row.{putRow}
 use Rattle.local.proofs.Copies.{row-within}
 use Rattle.local.proofs.Rows.{put-long}
@@ -35,42 +30,9 @@ use Rattle.gwr.specs.declared.Sweep.{Sweep}
 use Rattle.gwr.specs.declared.Fit.{Fit}
 use Rattle.gwr.specs.Sweep.{newSweep, afterOf, visitOf, endingOf, writeOf, visitFinal, sweepFinal}
 use Rattle.gwr.specs.Fit.{answerOf, finalOf}
-use Rattle.claims.specs.DemandOne.{AtLocation, FitAnswered}
+use Rattle.claims.specs.DemandOne.{Found, FitAnswered}
 use Rattle.claims.proofs.Cases.{either}
 use Rattle.claims.proofs.Untouched.{next-row, farther, put-behind}
-
--- ---- a location is refused with 14, 15 or 16 only
-
-abbrev FailedAt : Estimate → Type 0
-FailedAt estimate.Fitted = Unit {0}
-FailedAt (estimate.Failed r) = AtLocation r
-
-abbrev EstimateAt : Estimated → Type 0
-EstimateAt e = FailedAt (e .estimate)
-
-abbrev pub OutcomeAt : Outcome → Type 0
-OutcomeAt (outcome.Found v) = Unit {0}
-OutcomeAt (outcome.Refused r) = AtLocation r
-
-inverse-at : (a : Matrix) (rhs : Row) (m : ℕ) → EstimateAt (fromInverse a rhs m)
-unfolding fromInverse refusedWith
-inverse-at a rhs m =
-    either EstimateAt (inverseFinite a m) _ _
-    (either EstimateAt (coefficientsFinite (coefficientsOf a rhs m) m) _ _ tt (inr (inr refl)))
-    (inr (inl refl))
-
-fit-at : (x y w : Row) (n p : ℕ) → EstimateAt (local.fitOf x y w n p .0)
-unfolding local.fitOf refusedWith
-fit-at x y w n p = either EstimateAt (eliminatedOf x y w n p .0) _ _ (inverse-at _ _ _) (inl refl)
-
-outcome-at : (e : Estimate) (v : Values) → FailedAt e → OutcomeAt (outcomeOf e v)
-unfolding outcomeOf
-outcome-at estimate.Fitted v h = tt
-outcome-at (estimate.Failed r) v h = h
-
-pub location-at : (d : Data) (k : GwrKernel) (b : GwrBandwidth) (i : ℕ) → OutcomeAt (solveLocation d k b i .outcome)
-unfolding solveLocation solveLocal solvedUnder
-location-at d k b i = outcome-at _ _ (fit-at _ _ _ _ _)
 
 -- ---- the final fit's sweep
 
@@ -79,10 +41,17 @@ module _ (d : Data) (k : GwrKernel) (b : GwrBandwidth) (out : List Float) (room 
   abbrev Left : ℕ → List Float → Type 0
   Left r w = (drop (r * (d .p + 4)) w ≡ drop (r * (d .p + 4)) out) × (length w ≡ length out)
 
+  -- what solving a location says
+  abbrev solve : ℕ → Outcome
+  solve i = solveLocation d k b i .outcome
+
+  abbrev Before : ℕ → Type 0
+  Before rows = (i : ℕ) → i < rows → Found (solve i)
+
   -- before location i: a row for each location, or a refusal behind the last row
   abbrev Swept : Course → ℕ → ℕ → List Float → Type 0
-  Swept Going i rows w = (rows ≡ i) × Left rows w
-  Swept (Stopped r) i rows w = AtLocation r × (rows < i) × Left rows w
+  Swept Going i rows w = (rows ≡ i) × Before rows × Left rows w
+  Swept (Stopped r) i rows w = (rows < i) × (solve rows ≡ outcome.Refused r) × Before rows × Left rows w
 
   abbrev SweptAt : ℕ → Sweep × List Float → Type 0
   SweptAt i s = Swept (s .0 .course) i (s .0 .rows) (s .1)
@@ -100,21 +69,31 @@ module _ (d : Data) (k : GwrKernel) (b : GwrBandwidth) (out : List Float) (room 
         put-long w (d .n) (d .p + 1) i beta v (rw e (omega (arith, room, h .1))) l (omega (arith, narrow)) eight ∙ h .1,
       )
 
-  visited : (i : ℕ) (o : Outcome) (beta w : List Float) (rows : ℕ) (t q : Float) (m : ℕ) → i < d .n → length beta ≡ 8 → OutcomeAt o → rows ≡ i → Left rows w
+  one-more : (i : ℕ) (v : Values) → solve i ≡ outcome.Found v → Before i → Before (i + 1)
+  one-more i v e h q l =
+      elim (here-or-on q i) [
+        | inl z ↦ h q z
+        | inr z ↦ let same : q ≡ i = omega arith in subst⁻¹ Found (ap solve same ∙ e) tt
+      ]
+
+  visited : (i : ℕ) (o : Outcome) (beta w : List Float) (rows : ℕ) (t q : Float) (m : ℕ) → i < d .n → length beta ≡ 8 → solve i ≡ o → rows ≡ i → Before rows → Left rows w
       → SweptAt (suc i) (afterOf (sweepAt Going rows t q m) o, writeOf o (d .p + 1) i beta w)
-  visited i (outcome.Found v) beta w rows t q m l eight z e h =
-      (omega arith, subst⁻¹ (λ (r : ℕ). Left (r + 1) (putRow w (d .p + 1) i beta v)) e (left-put i beta w v l eight (subst (λ (r : ℕ). Left r w) e h)))
-  visited i (outcome.Refused r) beta w rows t q m l eight z e h = (z, omega arith, h)
+  visited i (outcome.Found v) beta w rows t q m l eight z e f h = (
+    omega arith,
+    subst⁻¹ (λ (r : ℕ). Before (r + 1)) e (one-more i v z (subst Before e f)),
+    subst⁻¹ (λ (r : ℕ). Left (r + 1) (putRow w (d .p + 1) i beta v)) e (left-put i beta w v l eight (subst (λ (r : ℕ). Left r w) e h)),
+  )
+  visited i (outcome.Refused r) beta w rows t q m l eight z e f h = (omega arith, ap solve e ∙ z, f, h)
 
   step : (i : ℕ) (c : Course) (rows : ℕ) (t q : Float) (m : ℕ) (w : List Float) → i < d .n → Swept c i rows w → SweptAt (suc i) (visitFinal d k b i (sweepAt c rows t q m, w))
   unfolding visitFinal visitOf
   step i Going rows t q m w l h =
-      visited i (solveLocation d k b i .outcome) (solveLocation d k b i .beta) w rows t q m l (beta-eight d k b i) (location-at d k b i) (h .0) (h .1)
-  step i (Stopped r) rows t q m w l h = (h .0, omega (arith, h .1), h .2)
+      visited i (solve i) (solveLocation d k b i .beta) w rows t q m l (beta-eight d k b i) refl (h .0) (h .1) (h .2)
+  step i (Stopped r) rows t q m w l h = (omega (arith, h .0), h .1, h .2, h .3)
 
   swept-turns : (i : ℕ) → i ≤ d .n → SweptAt i (turns (visitFinal d k b) 0 i (newSweep, out))
   unfolding turns
-  swept-turns zero h = (refl, (refl, refl))
+  swept-turns zero h = (refl, λ i l. absurd (omega arith), (refl, refl))
   swept-turns (suc i) h =
       let s = turns (visitFinal d k b) 0 i (newSweep, out) in
       rw zero-add (step i (s .0 .course) (s .0 .rows) (s .0 .trace) (s .0 .squares) (s .0 .solves) (s .1) (omega arith) (swept-turns i (omega arith)))
@@ -126,24 +105,25 @@ module _ (d : Data) (k : GwrKernel) (b : GwrBandwidth) (out : List Float) (room 
   -- ---- its answer
 
   answered : (c : Course) (rows : ℕ) (t q : Float) (m before : ℕ) (w : List Float) → Swept c (d .n) rows w
-      → FitAnswered (answerOf (endingOf (sweepAt c rows t q m) (d .n)) b (before + m)) rows (d .n)
+      → FitAnswered (answerOf (endingOf (sweepAt c rows t q m) (d .n)) b (before + m)) solve rows (d .n)
   unfolding endingOf correctedAic
   answered Going rows t q m before w h =
-      either (λ (c : Criterion). FitAnswered (answerOf c b (before + m)) rows (d .n)) (finite (deviation (realOf (d .n)) q)) _ _ (h .0) (inr (refl, h .0), refl)
+      either (λ (c : Criterion). FitAnswered (answerOf c b (before + m)) solve rows (d .n)) (finite (deviation (realOf (d .n)) q)) _ _ (h .0) (inr (h .0, refl), refl)
   answered (Stopped r) rows t q m before w h = (inl (h .0, h .1), refl)
 
-  left-of : (c : Course) (rows : ℕ) (w : List Float) → Swept c (d .n) rows w → Left rows w
-  left-of Going rows w h = h .1
-  left-of (Stopped r) rows w h = h .2
+  left-of : (c : Course) (rows : ℕ) (w : List Float) → Swept c (d .n) rows w → Before rows × Left rows w
+  left-of Going rows w h = (h .1, h .2)
+  left-of (Stopped r) rows w h = (h .2, h .3)
 
--- a fit of n observations with p predictors that ended its final sweep so
-pub record Finished (n p : ℕ) (out : List Float) (f : Fit × List Float) : Type 0 where
-  pub answered : FitAnswered (f .0 .answer) (f .0 .rows) n
-  pub untouched : let from = f .0 .rows * (p + 4) in drop from (f .1) ≡ drop from out
+-- a final fit of the data d at the bandwidth b
+pub record Finished (d : Data) (o : GwrOptions) (b : GwrBandwidth) (out : List Float) (f : Fit × List Float) : Type 0 where
+  pub answered : FitAnswered (f .0 .answer) (λ (i : ℕ). solveLocation d (o .kernel) b i .outcome) (f .0 .rows) (d .n)
+  pub before : (i : ℕ) → i < f .0 .rows → Found (solveLocation d (o .kernel) b i .outcome)
+  pub untouched : let from = f .0 .rows * (d .p + 4) in drop from (f .1) ≡ drop from out
   pub long : length (f .1) ≡ length out
 
 pub final-finished : (d : Data) (o : GwrOptions) (b : GwrBandwidth) (before : ℕ) (out : List Float) → d .n * (d .p + 4) ≤ length out → d .p ≤ 7
-    → Finished (d .n) (d .p) out (finalOf d o b before out)
+    → Finished d o b out (finalOf d o b before out)
 unfolding finalOf
 final-finished d o b before out room narrow =
     let s = sweepFinal d (o .kernel) b out in
@@ -151,6 +131,7 @@ final-finished d o b before out room narrow =
     let l = left-of d (o .kernel) b out room narrow (s .0 .course) (s .0 .rows) (s .1) h in
     record {
       answered = answered d (o .kernel) b out room narrow (s .0 .course) (s .0 .rows) (s .0 .trace) (s .0 .squares) (s .0 .solves) before (s .1) h;
-      untouched = l .0;
-      long = l .1;
+      before = l .0;
+      untouched = l .1 .0;
+      long = l .1 .1;
     }

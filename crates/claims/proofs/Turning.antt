@@ -2,7 +2,7 @@
 use mathlib.Core.Path.{_≡_, refl, sym, ap, subst⁻¹, _∙_}
 use mathlib.Core.Bool.{Bool, true, false, cond, not}
 use mathlib.Core.List.{List, []}
-use mathlib.Core.Logic.{inl, inr}
+use mathlib.Core.Logic.{inr}
 use Prim.Native.Nat.{ℕ, zero, suc, _+_, _*_, _≤_}
 use native.Mathlib.Omega.{arith}
 use borrow.Author.Tests.{eqb-true, leb-true, le-leb, eq-eqb, lt-ltb, not-true, not-false}
@@ -41,7 +41,7 @@ use Rattle.claims.specs.DemandOne.{Met, TurnAnswered, TurnServed}
 use Rattle.claims.proofs.Cases.{either, never}
 use Rattle.claims.proofs.Judged.{Tells, AllTell, judged, decides, tells}
 use Rattle.claims.proofs.Accepting.{values-tell}
-use Rattle.claims.proofs.Served.{location-at, OutcomeAt}
+use Rattle.claims.proofs.Solved.{OutcomeAt, location-at, at-met}
 use Rattle.claims.proofs.Holding.{Holds, held-fit, holds-step, solve-live}
 use Rattle.claims.proofs.Untouched.{Untouched, step-untouched}
 
@@ -164,7 +164,7 @@ StageMet (Ended c) = CriterionMet c
 
 aic-met : (n : ℕ) (q t : Float) → CriterionMet (correctedAic n q t)
 unfolding correctedAic
-aic-met n q t = either CriterionMet (finite (deviation (realOf n) q)) _ _ tt (inr refl)
+aic-met n q t = either CriterionMet (finite (deviation (realOf n) q)) _ _ tt (inr (inr (inr refl)))
 
 close-met : (x : Stage) (j : Job) (c : Criterion) → CriterionMet c → StageMet (j .stage) → StageMet (closeAt x j c .stage)
 close-met First j c m h = tt
@@ -177,7 +177,7 @@ after-met : (j : Job) (o : Outcome) → OutcomeAt o → StageMet (j .stage) → 
 unfolding advanceOf closeOf
 after-met j (outcome.Found v) l h =
     either (λ (k : Job). StageMet (k .stage)) (eqb (j .location + 1) (j .setup .n)) _ _ (close-met (j .stage) (addedJob j v) _ (aic-met _ _ _) h) h
-after-met j (outcome.Refused r) l h = close-met (j .stage) j (criterion.Refused r) (inl l) h
+after-met j (outcome.Refused r) l h = close-met (j .stage) j (criterion.Refused r) (at-met r l) h
 
 step-met : (d : Data) (j : Job) → StageMet (j .stage) → StageMet (stepJob d j .stage)
 unfolding stepJob

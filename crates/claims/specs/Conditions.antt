@@ -52,6 +52,10 @@ pub record Decides (l : List Condition) (Refused : Refusal → Type 0) (Served :
 
 -- ---- values
 
+-- P of some number below m
+abbrev pub Some : ℕ → (ℕ → Type 0) → Type 0
+Some m P = (q : ℕ) × (q < m) × P q
+
 -- some number of the list is NaN or infinite
 abbrev pub SomeNotFinite : List Float → Type 0
 SomeNotFinite [] = ⊥

@@ -3,12 +3,13 @@
 -- 'Runs without fault and ends' is what the checker proves of every function by accepting it: no index, division, shift or sum out of range, no loop without end. These six have no `requires`, so it holds of every input.
 use Prim.Native.Nat.{ℕ, _+_, _*_, _/_, _≤_, _<_}
 use mathlib.Core.Path.{_≡_}
-use mathlib.Core.Bool.{cond}
+use mathlib.Core.Bool.{false, cond, not}
 use mathlib.Core.List.{List, [], _∷_}
 use mathlib.Core.Logic.{_⊎_}
 use lib.Dec.{T, eqb}
-use lib.ListN.{length, drop}
-use lib.Ieee.{Float, lt, isNan}
+use lib.ListN.{length, drop, getD}
+use lib.Ieee.{Float, nan, lt, isNan}
+use lib.Ieee.Scale.{finite}
 use Rattle.real.specs.Reals.{zero64}
 use Rattle.refusal.specs.declared.Refusal.{Refusal}
 use Rattle.refusal.specs.declared.Refusal.the-variants.{CoordinateNotFinite, Singular, InverseNotFinite, CoefficientNotFinite, DeviationNotFinite}
@@ -16,12 +17,22 @@ use Rattle.refusal.specs.Numbers.{refusalNumber}
 use Rattle.kernel.specs.declared.GwrKernel.{GwrKernel}
 use Rattle.kernel.specs.declared.Weighed.the-variants as weight
 use Rattle.kernel.specs.Weight.{weightOf, weighed}
+use Rattle.neighbours.specs.declared.GwrBandwidth.{GwrBandwidth}
+use Rattle.neighbours.specs.Bandwidth.{bandwidthOf}
+use Rattle.normal.specs.Data.{Data}
+use Rattle.normal.specs.Weights.{weightsAt}
+use Rattle.local.specs.declared.Outcome.{Outcome}
+use Rattle.local.specs.declared.Outcome.the-variants as outcome
+use Rattle.local.specs.Inner.{inverseCell}
+use Rattle.local.specs.Estimate.{equationsOf, eliminatedOf, coefficientsOf}
+use Rattle.local.specs.Solve.{solveLocation}
 use Rattle.criterion.specs.Aicc.{failedSummary}
 use Rattle.plan.specs.declared.GwrOptions.{GwrOptions}
+use Rattle.plan.specs.Plan.{acceptOf}
 use Rattle.gwr.specs.declared.FitAnswer.{FitAnswer}
 use Rattle.gwr.specs.declared.FitAnswer.the-variants as fit
 use Rattle.gwr.specs.declared.Fit.{Fit}
-use Rattle.gwr.specs.Fit.{fitOf}
+use Rattle.gwr.specs.Fit.{jobData, fitOf}
 use Rattle.job.specs.declared.Job.{Job}
 use Rattle.job.specs.declared.Begun.{Begun}
 use Rattle.job.specs.declared.Beginning.the-variants as beginning
@@ -33,37 +44,51 @@ use Rattle.wire.specs.Wire.{bytesOf, bitsOf, realOf, placed}
 use Rattle.calls.specs.declared.KernelChoice.the-variants as choice
 use Rattle.calls.specs.Options.{kernelOf, optionsOf}
 use Rattle.calls.specs.Calls.{After, fitBytes, weightBytes}
-use Rattle.claims.specs.Whole.{countOf}
+use Rattle.claims.specs.Whole.{countOf, finalBandwidth}
 use Rattle.claims.specs.Turns.{unwrittenFrom}
-use Rattle.claims.specs.Conditions.{when, Decides, FitRecord, named, inputConditions, turnConditions, byteConditions, weightConditions}
+use Rattle.claims.specs.Conditions.{Condition, when, Decides, Some, FitRecord, named, inputConditions, turnConditions, byteConditions, weightConditions}
 
 -- ---- met while solving
 
--- 14 singular, 15 inverse not finite, 16 coefficient not finite
-abbrev pub AtLocation : Refusal → Type 0
-AtLocation r = (r ≡ Singular) ⊎ ((r ≡ InverseNotFinite) ⊎ (r ≡ CoefficientNotFinite))
+-- one local solve: 14 a pivot below 1e-12, 15 a cell of the inverse not finite, 16 a coefficient not finite, in this order
+abbrev pub solveConditions : Data → GwrKernel → GwrBandwidth → ℕ → List Condition
+solveConditions d k b i =
+    let w = weightsAt d k i (bandwidthOf (d .coords) (d .n) i b) .0 in
+    let m = d .p + 1 in
+    let e = eliminatedOf (d .predictors) (d .responses) w (d .n) (d .p) in
+    let rhs = equationsOf (d .predictors) (d .responses) w (d .n) (d .p) .1 in
+    when Singular (e .0 ≡ false)
+    ∷ when InverseNotFinite (Some m (λ (r : ℕ). Some m (λ (c : ℕ). T (not (finite (inverseCell (e .1) m r c))))))
+    ∷ when CoefficientNotFinite (Some m (λ (c : ℕ). T (not (finite (getD (coefficientsOf (e .1) rhs m) c nan)))))
+    ∷ []
 
--- and 17 root of mean square not finite
+abbrev pub Found : Outcome → Type 0
+Found (outcome.Found v) = Unit {0}
+Found (outcome.Refused r) = ⊥
+
+-- 14, 15 or 16; and 17 root of mean square not finite
 abbrev pub Met : Refusal → Type 0
-Met r = AtLocation r ⊎ (r ≡ DeviationNotFinite)
+Met r = (r ≡ Singular) ⊎ ((r ≡ InverseNotFinite) ⊎ ((r ≡ CoefficientNotFinite) ⊎ (r ≡ DeviationNotFinite)))
 
 -- ---- the fit
 
--- fitted with all n rows written, or failed with a refusal met while solving: at the location behind the last row written, or 17 behind all; then the summary is zeros but for the solve count
-abbrev pub FitAnswered : FitAnswer → ℕ → ℕ → Type 0
-FitAnswered (fit.Fitted s) rows n = rows ≡ n
-FitAnswered (fit.Failed r s) rows n =
-    ((AtLocation r × (rows < n)) ⊎ ((r ≡ DeviationNotFinite) × (rows ≡ n))) × (s ≡ failedSummary (s .solves))
-FitAnswered (fit.Rejected r) rows n = ⊥
+-- fitted with all n rows written, or failed with a refusal met while solving: of the location behind the last row written, or 17 behind all; then the summary is zeros but for the solve count
+abbrev pub FitAnswered : FitAnswer → (ℕ → Outcome) → ℕ → ℕ → Type 0
+FitAnswered (fit.Fitted s) solve rows n = rows ≡ n
+FitAnswered (fit.Failed r s) solve rows n =
+    (((rows < n) × (solve rows ≡ outcome.Refused r)) ⊎ ((rows ≡ n) × (r ≡ DeviationNotFinite))) × (s ≡ failedSummary (s .solves))
+FitAnswered (fit.Rejected r) solve rows n = ⊥
 
--- a fit of n observations with p predictors that is not refused from the input, out being the output before
-pub record FitServed (n p : ℕ) (out : List Float) (f : Fit × List Float) : Type 0 where
-  pub answered : FitAnswered (f .0 .answer) (f .0 .rows) n
+-- a fit of the data d that is not refused from the input, b its final bandwidth, out the output before
+pub record FitServed (d : Data) (o : GwrOptions) (b : GwrBandwidth) (out : List Float) (f : Fit × List Float) : Type 0 where
+  pub answered : FitAnswered (f .0 .answer) (λ (i : ℕ). solveLocation d (o .kernel) b i .outcome) (f .0 .rows) (d .n)
+  -- lowest location first: every one before was solved, and has its row
+  pub before : (i : ℕ) → i < f .0 .rows → Found (solveLocation d (o .kernel) b i .outcome)
   -- the rows written are kept, and no other number is altered, added or taken away
-  pub untouched : let from = f .0 .rows * (p + 4) in drop from (f .1) ≡ drop from out
+  pub untouched : let from = f .0 .rows * (d .p + 4) in drop from (f .1) ≡ drop from out
   pub long : length (f .1) ≡ length out
   -- it ends after so many local solves at most
-  pub solves : countOf (f .0 .answer) ≤ 103 * n
+  pub solves : countOf (f .0 .answer) ≤ 103 * d .n
 
 -- ---- beginning and turns
 
@@ -121,7 +146,11 @@ pub record DemandOne : Type 0 where
   pub fits : (coords x y : List Float) (p : ℕ) (o : GwrOptions) (out : List Float)
       → Decides (inputConditions coords x y p o (length out))
       (λ (r : Refusal). fitOf coords x y p o out ≡ (record { answer = fit.Rejected r; rows = 0 }, out))
-      (FitServed (length coords / 2) p out (fitOf coords x y p o out))
+      (let d = jobData coords x y p in
+      FitServed d o (finalBandwidth (acceptOf coords x y p o (length out)) d o) out (fitOf coords x y p o out))
+  -- one local solve
+  pub solves : (d : Data) (k : GwrKernel) (b : GwrBandwidth) (i : ℕ)
+      → Decides (solveConditions d k b i) (λ (r : Refusal). solveLocation d k b i .outcome ≡ outcome.Refused r) (Found (solveLocation d k b i .outcome))
   -- `begin`, which runs the same checks; out is the output's length
   pub begins : (coords x y : List Float) (p : ℕ) (o : GwrOptions) (out : ℕ)
       → Decides (inputConditions coords x y p o out) (BeginRefused (beginOf coords x y p o out)) (BeginServed (beginOf coords x y p o out))
