@@ -77,7 +77,7 @@ module _ (coords x y : List Float) (p : ℕ) (o : GwrOptions) where
         let z = demand-three coords x y p o out (begins h) [] tt in
         let r = room-of (acceptOf coords x y p o (length out)) refl h in
         let f = subst⁻¹ (Finished d o final out) (z .final) (final-finished d o final (searchSolves (acceptOf coords x y p o (length out)) d o) out (r .0) (r .1)) in
-        record { answered = f .answered; before = f .before; untouched = f .untouched; long = f .long; solves = z .bound }
+        record { answered = f .answered; written = f .written; untouched = f .untouched; long = f .long; solves = z .bound }
 
     pub fit-refused : (r : Refusal) → judge (tests coords x y p (length out) o) ≡ check.Refused r → fitOf coords x y p o out ≡ (record { answer = fit.Rejected r; rows = 0 }, out)
     unfolding fitOf

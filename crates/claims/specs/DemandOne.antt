@@ -7,7 +7,7 @@ use mathlib.Core.Bool.{false, cond, not}
 use mathlib.Core.List.{List, [], _∷_}
 use mathlib.Core.Logic.{_⊎_}
 use lib.Dec.{T, eqb}
-use lib.ListN.{length, drop, getD}
+use lib.ListN.{length, take, drop, getD}
 use lib.Ieee.{Float, nan, lt, isNan}
 use lib.Ieee.Scale.{finite}
 use Rattle.real.specs.Reals.{zero64}
@@ -21,11 +21,14 @@ use Rattle.neighbours.specs.declared.GwrBandwidth.{GwrBandwidth}
 use Rattle.neighbours.specs.Bandwidth.{bandwidthOf}
 use Rattle.normal.specs.Data.{Data}
 use Rattle.normal.specs.Weights.{weightsAt}
+use Rattle.local.specs.declared.Values.{Values}
+use Rattle.local.specs.declared.Solved.{Solved}
 use Rattle.local.specs.declared.Outcome.{Outcome}
 use Rattle.local.specs.declared.Outcome.the-variants as outcome
 use Rattle.local.specs.Inner.{inverseCell}
 use Rattle.local.specs.Estimate.{equationsOf, eliminatedOf, coefficientsOf}
 use Rattle.local.specs.Solve.{solveLocation}
+use Rattle.local.specs.Row.{rowOf}
 use Rattle.criterion.specs.Aicc.{failedSummary}
 use Rattle.plan.specs.declared.GwrOptions.{GwrOptions}
 use Rattle.plan.specs.Plan.{acceptOf}
@@ -79,12 +82,16 @@ FitAnswered (fit.Failed r s) solve rows n =
     (((rows < n) × (solve rows ≡ outcome.Refused r)) ⊎ ((rows ≡ n) × (r ≡ DeviationNotFinite))) × (s ≡ failedSummary (s .solves))
 FitAnswered (fit.Rejected r) solve rows n = ⊥
 
+-- a location that was solved, and its output row: p + 1 coefficients, prediction, residual, local R²
+abbrev pub Written : Solved → ℕ → List Float → Type 0
+Written s p row = (v : Values) × (s .outcome ≡ outcome.Found v) × (row ≡ rowOf (s .beta) (p + 1) v)
+
 -- a fit of the data d that is not refused from the input, b its final bandwidth, out the output before
 pub record FitServed (d : Data) (o : GwrOptions) (b : GwrBandwidth) (out : List Float) (f : Fit × List Float) : Type 0 where
   pub answered : FitAnswered (f .0 .answer) (λ (i : ℕ). solveLocation d (o .kernel) b i .outcome) (f .0 .rows) (d .n)
   -- lowest location first: every one before was solved, and has its row
-  pub before : (i : ℕ) → i < f .0 .rows → Found (solveLocation d (o .kernel) b i .outcome)
-  -- the rows written are kept, and no other number is altered, added or taken away
+  pub written : (i : ℕ) → i < f .0 .rows → Written (solveLocation d (o .kernel) b i) (d .p) (take (d .p + 4) (drop (i * (d .p + 4)) (f .1)))
+  -- no other number is altered, added or taken away
   pub untouched : let from = f .0 .rows * (d .p + 4) in drop from (f .1) ≡ drop from out
   pub long : length (f .1) ≡ length out
   -- it ends after so many local solves at most
