@@ -65,6 +65,7 @@ solveConditions d k b i =
     ∷ when CoefficientNotFinite (Some m (λ (c : ℕ). T (not (finite (getD (coefficientsOf (e .1) rhs m) c nan)))))
     ∷ []
 
+-- a solve that is not refused
 abbrev pub Found : Outcome → Type 0
 Found (outcome.Found v) = Unit {0}
 Found (outcome.Refused r) = ⊥
