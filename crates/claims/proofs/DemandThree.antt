@@ -22,14 +22,14 @@ use Rattle.job.specs.declared.Beginning.the-variants as beginning
 use Rattle.job.specs.Step.{overOf}
 use Rattle.job.specs.Turn.{setupOf, begunWith, beginOf, answerAt}
 use Rattle.claims.specs.Whole.{endedWith, finalBandwidth, searchSolves, Scored, trialsOf, Earliest}
-use Rattle.claims.specs.Claim as claim
+use Rattle.claims.specs.DemandThree as claim
 use Rattle.claims.specs.Turns.{State, Turn, settled, play, AllLawful, granted}
 use Rattle.claims.proofs.Leading.{leads-on}
 use Rattle.claims.proofs.Fitting.{foundBandwidth, foundSolves, plan-ends, plan-final}
 use Rattle.claims.proofs.Holding.{Holds, holds-steps}
 use Rattle.claims.proofs.Starting.{started, lent-passes}
 use Rattle.claims.proofs.Playing.{played, over-is}
-use Rattle.claims.proofs.Rising.{steps-solves, few-solves, stays}
+use Rattle.claims.proofs.Rising.{steps-solves, few-solves, Alike, stays}
 use Rattle.claims.proofs.Untouched.{Untouched, steps-untouched}
 use Rattle.claims.proofs.Best.{golden-best}
 
@@ -99,6 +99,8 @@ module _ (coords x y : List Float) (p : ℕ) (o : GwrOptions) (out : List Float)
       let G = granted ts (play coords x y ts begun .1) in
       let over : overOf (after (min count G)) ≡ leb count G = over-is coords x y u (length out) count begun (e .end) (endedWith (whole .0 .answer)) (e .way) (e .over) (e .said) holds lent G in
       let at : count ≤ G → play coords x y ts begun .0 ≡ e .end = λ h. pl .state ∙ ap after (omega arith) ∙ e .way .to in
+      let alike : settled (play coords x y ts begun .0 .0 .stage) ≡ true → Alike (after (min count G) .0) (e .end .0) =
+      λ h. stays ownData (count - min count G) (after (min count G)) (e .end) (leads-on (min count G) (omega arith) (e .way)) (subst (λ (s : State). settled (s .0 .stage) ≡ true) (pl .state) h) in
       record {
         state = pl .state;
         untouched =
@@ -112,11 +114,8 @@ module _ (coords x y : List Float) (p : ℕ) (o : GwrOptions) (out : List Float)
         summary = λ h. ap (λ (s : State). answerAt (s .0 .stage) (s .0 .bandwidth) (s .0 .solves)) (at h) ∙ e .said;
         solves = ap (λ (s : State). s .0 .solves) (pl .state) ∙ steps-solves ownData (min count G) begun ∙ omega (arith, unsolved q);
         bound = omega (arith, few-solves u (length out) (after count) (holds count (omega arith)), ap (λ (s : State). s .0 .solves) (e .way .to), e .solves);
-        settles =
-            λ h. ap (λ (s : State). s .0 .bandwidth) (pl .state)
-            ∙ sym (stays ownData (count - min count G) (after (min count G)) (e .end) (leads-on (min count G) (omega arith) (e .way)) (subst (λ (s : State). settled (s .0 .stage) ≡ true) (pl .state) h))
-            ∙ e .bandwidth
-            ∙ same q refl .0;
+        settles = λ h. ap (λ (s : State). s .0 .bandwidth) (pl .state) ∙ sym (alike h .0) ∙ e .bandwidth ∙ same q refl .0;
+        tried = λ h. ap (λ (s : State). s .0 .trials) (pl .state) ∙ sym (alike h .1) ∙ e .trials;
         final =
             plan-final coords x y u some out q ready
             ∙ ap (λ (b : GwrBandwidth). finalOf ownData o b (foundSolves q ownData o) out) (same q refl .0)

@@ -4,6 +4,7 @@ use mathlib.Core.Bool.{true}
 use mathlib.Core.List.{List}
 use Prim.Native.Nat.{ℕ, _+_, _≤_}
 use native.Mathlib.Omega.{arith}
+use lib.ListN.{length}
 use lib.Ieee.{Float}
 use Rattle.neighbours.specs.declared.GwrBandwidth.{GwrBandwidth}
 use Rattle.normal.specs.Data.{Data}
@@ -25,7 +26,7 @@ use Rattle.job.specs.declared.Job.{Job}
 use Rattle.job.specs.declared.Beginning.the-variants as beginning
 use Rattle.job.specs.Step.{overOf}
 use Rattle.job.specs.Turn.{endedAnswer, answerAt, begunWith}
-use Rattle.claims.specs.Whole.{countOf, endedWith}
+use Rattle.claims.specs.Whole.{countOf, endedWith, trialsOf}
 use Rattle.claims.proofs.Leading.{leads-none, leads-then}
 use Rattle.claims.proofs.Sweeping.{startAt, own, Leading, swept, sweep-leads}
 use Rattle.claims.proofs.Searching.{golden-leads}
@@ -50,20 +51,21 @@ foundSolves (plan.Settled b) d o = 0
 foundSolves (plan.Sought lo hi) d o = goldenOf d o lo hi .solves
 
 module _ (coords x y : List Float) (u : Setup) where
-  -- the end of a job that began so, whose uninterrupted fit is f with the bandwidth b
-  pub record Ends (begun : Job × List Float) (f : Fit × List Float) (b : GwrBandwidth) : Type 0 where
+  -- the end of a job that began so, whose uninterrupted fit is f with the bandwidth b after m trials
+  pub record Ends (begun : Job × List Float) (f : Fit × List Float) (b : GwrBandwidth) (m : ℕ) : Type 0 where
     pub end : Job × List Float
     pub way : Leading coords x y u (countOf (f .0 .answer)) begun end
     pub over : overOf end ≡ true
     pub said : answerAt (end .0 .stage) (end .0 .bandwidth) (end .0 .solves) ≡ endedWith (f .0 .answer)
     pub rows : end .1 ≡ f .1
     pub bandwidth : end .0 .bandwidth ≡ b
+    pub trials : end .0 .trials ≡ m
     pub solves : end .0 .solves ≡ countOf (f .0 .answer)
 
   module _ (some : 1 ≤ u .n) (out : List Float) where
     -- the final fit, to which c steps led
     final-ends : (begun : Job × List Float) (g : Bracket) (b : GwrBandwidth) (m c : ℕ) → Leading coords x y u c begun (startAt u Final g b m c out)
-        → Ends begun (finalOf (own coords x y u) (u .options) b c out) b
+        → Ends begun (finalOf (own coords x y u) (u .options) b c out) b m
     unfolding finalOf
     final-ends begun g b m c h =
         let s = sweepFinal (own coords x y u) (u .options .kernel) b out in
@@ -76,16 +78,17 @@ module _ (coords x y : List Float) (u : Setup) where
           said = ended-is e b k;
           rows = refl;
           bandwidth = refl;
+          trials = refl;
           solves = sym (count-is e b k);
         }
 
     -- the whole fit, by its plan
     pub plan-ends : (q : Plan) → begunWith q u .answer ≡ beginning.Ready
-        → Ends (begunWith q u .job, out) (planned q (own coords x y u) (u .options) out) (foundBandwidth q (own coords x y u) (u .options))
+        → Ends (begunWith q u .job, out) (planned q (own coords x y u) (u .options) out) (foundBandwidth q (own coords x y u) (u .options)) (length (trialsOf q (own coords x y u) (u .options)))
     unfolding soughtOf
     plan-ends (plan.Refused r) h = let z : _≡_ {A = ℕ} 0 1 = cc in absurd (omega arith)
     plan-ends (plan.Settled b) h = final-ends _ noBracket b 0 0 (leads-none _)
-    plan-ends (plan.Sought lo hi) h = let w = golden-leads coords x y u some out lo hi in final-ends _ _ _ (w .0) _ (w .1)
+    plan-ends (plan.Sought lo hi) h = final-ends _ _ _ _ _ (golden-leads coords x y u some out lo hi)
 
     -- the fit is a final fit at that bandwidth, after the search's solves
     pub plan-final : (q : Plan) → begunWith q u .answer ≡ beginning.Ready

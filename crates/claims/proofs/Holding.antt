@@ -69,7 +69,7 @@ step-ended d j s live = after-ended (countedJob j) (solveOf d j .outcome) counte
     counted =
         record { sized = s .sized; within = s .within; usable = s .usable; kinds = s .kinds; trials = s .trials; solves = omega (arith, s .solves) }
 
-solve-live : (x : Stage) → endedAt x ≡ false → endedSolve x ≡ 0
+pub solve-live : (x : Stage) → endedAt x ≡ false → endedSolve x ≡ 0
 solve-live First h = refl
 solve-live Second h = refl
 solve-live Round h = refl

@@ -1,3 +1,5 @@
+pub mod Judged
+pub mod Accepting
 pub mod Cases
 pub mod Leading
 pub mod Sweeping
@@ -9,4 +11,14 @@ pub mod Playing
 pub mod Best
 pub mod Rising
 pub mod Untouched
+pub mod Solved
+pub mod Served
+pub mod Turning
 pub mod DemandThree
+pub mod Deciding
+pub mod Called
+pub mod DemandOne
+pub mod DemandTwo
+pub mod Computing
+pub mod Examples
+pub mod Played

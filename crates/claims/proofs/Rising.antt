@@ -1,4 +1,4 @@
--- Solves rise by one with each step, and from the final fit on the bandwidth stays.
+-- Solves rise by one with each step, and from the final fit on the bandwidth and the trials stay.
 use mathlib.Core.Path.{_≡_, refl, sym, ap, subst, subst⁻¹, _∙_}
 use mathlib.Core.Bool.{true, false}
 use Prim.Native.Nat.{ℕ, zero, suc, _+_, _*_, _≤_}
@@ -50,18 +50,22 @@ few-solves u long s h =
     let t : j .trials * j .setup .n ≤ 102 * j .setup .n = mul-le-mul (trials-few (j .stage) (j .trials) (k .trials)) (omega arith) in
     subst (λ (w : Setup). j .solves ≤ 103 * w .n) (h .setup) (omega (arith, k .solves, k .within, ended-few (j .stage)))
 
--- ---- the bandwidth
+-- ---- the bandwidth and the trials
 
--- in the final fit, or ended, with the bandwidth of j
+-- those of j
+abbrev pub Alike : Job → Job → Type 0
+Alike j k = (k .bandwidth ≡ j .bandwidth) × (k .trials ≡ j .trials)
+
+-- in the final fit, or ended, with those of j
 abbrev Stays : Job → Job → Type 0
-Stays j k = (settled (k .stage) ≡ true) × (k .bandwidth ≡ j .bandwidth)
+Stays j k = (settled (k .stage) ≡ true) × Alike j k
 
 close-stays : (x : Stage) (j : Job) (c : Criterion) → x ≡ Final → Stays j (closeAt x j c)
-close-stays x j c e = subst⁻¹ (λ (z : Stage). Stays j (closeAt z j c)) e (refl, refl)
+close-stays x j c e = subst⁻¹ (λ (z : Stage). Stays j (closeAt z j c)) e (refl, (refl, refl))
 
 after-stays : (j : Job) (o : Outcome) → j .stage ≡ Final → Stays j (afterSolve j o)
 unfolding advanceOf closeOf
-after-stays j (outcome.Found v) e = either (Stays j) (eqb (j .location + 1) (j .setup .n)) _ _ (close-stays (j .stage) (addedJob j v) _ e) (ap settled e, refl)
+after-stays j (outcome.Found v) e = either (Stays j) (eqb (j .location + 1) (j .setup .n)) _ _ (close-stays (j .stage) (addedJob j v) _ e) (ap settled e, (refl, refl))
 after-stays j (outcome.Refused r) e = close-stays (j .stage) j _ e
 
 final-of : (x : Stage) → settled x ≡ true → endedAt x ≡ false → x ≡ Final
@@ -71,9 +75,10 @@ final-of Round h e = never h
 final-of Final h e = refl
 final-of (Ended c) h e = never (sym e)
 
-pub stays : (d : Data) (k : ℕ) (s t : State) → Leads (stepOf d) overOf k s t → settled (s .0 .stage) ≡ true → t .0 .bandwidth ≡ s .0 .bandwidth
+pub stays : (d : Data) (k : ℕ) (s t : State) → Leads (stepOf d) overOf k s t → settled (s .0 .stage) ≡ true → Alike (s .0) (t .0)
 unfolding steps stepOf stepJob
-stays d zero s t l h = ap (λ (z : State). z .0 .bandwidth) (sym (l .to))
+stays d zero s t l h = (ap (λ (z : State). z .0 .bandwidth) (sym (l .to)), ap (λ (z : State). z .0 .trials) (sym (l .to)))
 stays d (suc k) s t l h =
     let z = after-stays (countedJob (s .0)) (solveOf d (s .0) .outcome) (final-of (s .0 .stage) h (l .live 0 (omega arith))) in
-    stays d k (stepOf d s) t (record { to = l .to; live = λ i q. l .live (suc i) (omega arith) }) (z .0) ∙ z .1
+    let y = stays d k (stepOf d s) t (record { to = l .to; live = λ i q. l .live (suc i) (omega arith) }) (z .0) in
+    (y .0 ∙ z .1 .0, y .1 ∙ z .1 .1)

@@ -1,14 +1,15 @@
 -- The golden section of the uninterrupted fit is as many steps of the job as its trials make solves.
-use mathlib.Core.Path.{_≡_, refl, subst}
-use mathlib.Core.Bool.{Bool, true, false}
-use mathlib.Core.List.{List}
+use mathlib.Core.Path.{_≡_, refl}
+use mathlib.Core.Bool.{Bool, true, false, cond}
+use mathlib.Core.List.{List, [], _∷_}
 use Prim.Native.Nat.{ℕ, zero, suc, _+_, _≤_, _<_}
 use native.Mathlib.Nat.{zero-add}
-use native.Mathlib.Numerals.{add-one}
 use native.Mathlib.Omega.{arith}
-use borrow.Author.Tests.{ne-eqb}
+use borrow.Author.Tests.{eq-eqb, ne-eqb}
 use lib.Dec.{eqb}
-use lib.Ieee.{Float}
+use lib.ListN.{length}
+use lib.Ieee.{Float, binary64, le, ofBits}
+use Rattle.real.specs.Reals.{magnitude}
 use Rattle.real.specs.Fold.{turns, range}
 use Rattle.neighbours.specs.declared.GwrBandwidth.{GwrBandwidth}
 use Rattle.golden.specs.declared.Bracket.{Bracket}
@@ -16,11 +17,14 @@ use Rattle.golden.specs.Golden.{startOf, firstOf, secondOf, aimOf, narrowOf, ti
 use Rattle.plan.specs.Plan.{bandwidthAt}
 use Rattle.gwr.specs.declared.Search.{Search}
 use Rattle.gwr.specs.declared.Trial.{Trial}
-use Rattle.gwr.specs.Search.{trialOf, roundOf, openedOf, goldenOf}
+use Rattle.gwr.specs.Search.{trialOf, roundOf, openedOf, goldenOf, loopBody}
+use Rattle.gwr.proofs.Literal.{variablesOf, body-is, left, front, opened-is}
 use Rattle.job.specs.declared.Stage.the-variants.{First, Second, Round, Final}
 use Rattle.job.specs.declared.Setup.{Setup}
 use Rattle.job.specs.declared.Job.{Job}
 use Rattle.job.specs.Step.{lastRound}
+use Rattle.claims.specs.Whole.{Scored, triedIn, loopTrials, goldenTrials}
+use Rattle.claims.proofs.Cases.{either}
 use Rattle.claims.proofs.Leading.{leads-then}
 use Rattle.claims.proofs.Sweeping.{startAt, own, Leading, sweep-leads, final-sweep}
 
@@ -82,52 +86,63 @@ module _ (coords x y : List Float) (u : Setup) (some : 1 ≤ u .n) (out : List F
     unfolding openedOf
     open-leads = let g = startOf lo hi in rw zero-add at (leads-then (first-leads g 0 0) (second-leads (firstOf g (trial (g .c) .score)) (g .d) 1 (0 + trial (g .c) .solves)))
 
-    abbrev ReachedAt : Bool → ℕ → Bracket → ℕ → Type 0
-    ReachedAt false r g c = Way c begun (inRound g (r + 2) c)
-    ReachedAt true r g c = (m : ℕ) × Way c begun (inFinal g m c)
-
-    -- after r rounds
-    abbrev Reached : ℕ → Search → Type 0
-    Reached r s = ReachedAt (s .over) r (s .bracket) (s .solves)
-
     abbrev searchAt : Bracket → Bool → ℕ → Search
     searchAt g b c = record { bracket = g; over = b; solves = c }
 
-    more : (r : ℕ) → r < 99 → (b : Bool) (g : Bracket) (c : ℕ) → ReachedAt b r g c → Reached (r + 1) (roundOf (own coords x y u) (u .options) r (searchAt g b c))
-    unfolding roundOf
-    more r h true g c p = p
-    more r h false g c p = go (tightOf (narrowed g (r + 2) c)) refl
-      where
-        off : eqb (r + 2) 101 ≡ false
-        off = ne-eqb (r + 2) 101 (omega arith)
+    -- rounds to go, from a search that is not over
+    abbrev rounds : ℕ → Search → Search
+    rounds k s = turns (roundOf (own coords x y u) (u .options)) 0 k s
 
-        go : (b : Bool) → tightOf (narrowed g (r + 2) c) ≡ b → ReachedAt b (r + 1) (narrowed g (r + 2) c) (c + tried g (r + 2) c .solves)
-        go true e = (r + 2 + 1, leads-then p (round-stops g (r + 2) c (rw (off, e))))
-        go false e = let z : r + 1 + 2 ≡ r + 2 + 1 = omega arith in rw z (leads-then p (round-goes g (r + 2) c (rw (off, e))))
+    -- before the final fit after the search s, of so many trials
+    abbrev Found : Search → ℕ → Type 0
+    Found s m = Way (s .solves) begun (inFinal (s .bracket) m (s .solves))
 
-    last : (k : ℕ) (b : Bool) (g : Bracket) (c : ℕ) → ReachedAt b 99 g c → let s = roundOf (own coords x y u) (u .options) k (searchAt g b c) in (m : ℕ) × Way (s .solves) begun (inFinal (s .bracket) m (s .solves))
-    unfolding roundOf
-    last k true g c p = p
-    last k false g c p = (102, leads-then p (round-stops g 101 c refl))
+    abbrev made : ℕ → Bracket → ℕ → ℕ
+    made k g c = length (loopTrials trial k (variablesOf g c))
 
-    abbrev rounded : ℕ → Search
-    rounded r = turns (roundOf (own coords x y u) (u .options)) 0 r opened
+    module _ (g : Bracket) (m c : ℕ) (p : Way c begun (inRound g m c)) where
+      abbrev solvesThen : ℕ
+      solvesThen = c + tried g m c .solves
 
-    rounds : (r : ℕ) → r ≤ 99 → Reached r (rounded r)
-    unfolding turns
-    rounds zero h = unfold openedOf in rw zero-add open-leads
-    rounds (suc r) h =
-        subst (λ (k : ℕ). Reached k (roundOf (own coords x y u) (u .options) (0 + r) (rounded r))) (add-one r)
-        (rw zero-add (more r (omega arith) (rounded r .over) (rounded r .bracket) (rounded r .solves) (rounds r (omega arith))))
+      -- the loop is left after this round
+      leaves : lastRound m (narrowed g m c) ≡ true → Found (searchAt (narrowed g m c) true solvesThen) (m + 1)
+      leaves e = leads-then p (round-stops g m c e)
 
-    all : (r : ℕ) → r ≡ 99 → let s = rounded (suc r) in (m : ℕ) × Way (s .solves) begun (inFinal (s .bracket) m (s .solves))
-    unfolding turns
-    all r e =
-        let s = rounded r in
-        let p : ReachedAt (s .over) 99 (s .bracket) (s .solves) = subst (λ (k : ℕ). ReachedAt (s .over) k (s .bracket) (s .solves)) e (rounds r (omega arith)) in
-        last (0 + r) (s .over) (s .bracket) (s .solves) p
+      -- the last of 100 rounds
+      last-leads : m ≡ 101 → Found (rounds 1 (searchAt g false c)) (m + made 1 g c)
+      unfolding turns roundOf loopTrials
+      last-leads e =
+          let one : m + made 1 g c ≡ m + 1 = either (λ (l : List Scored). m + length (triedIn trial (variablesOf g c) ∷ l) ≡ m + 1) (le (magnitude (loopBody trial (variablesOf g c) .h)) (ofBits binary64 0x3CB0_0000_0000_0000)) [] [] refl refl in
+          rw one (leaves (rw (eq-eqb m 101 e)))
 
-    -- the whole search
-    pub golden-leads : let s = goldenOf (own coords x y u) (u .options) lo hi in (m : ℕ) × Way (s .solves) begun (inFinal (s .bracket) m (s .solves))
-    unfolding goldenOf range
-    golden-leads = all 99 refl
+      -- a round before it
+      round-leads : (k : ℕ) → m < 101
+          → (Way solvesThen begun (inRound (narrowed g m c) (m + 1) solvesThen) → Found (rounds (suc k) (searchAt (narrowed g m c) false solvesThen)) (m + 1 + made (suc k) (narrowed g m c) solvesThen))
+          → Found (rounds (suc (suc k)) (searchAt g false c)) (m + made (suc (suc k)) g c)
+      unfolding loopTrials tightOf
+      round-leads k h next = rw (front (own coords x y u) (u .options) (suc k) (searchAt g false c), ← body-is trial g c) (unfold roundOf in go (tightOf (narrowed g m c)) refl)
+        where
+          w : Bracket
+          w = narrowed g m c
+
+          off : eqb m 101 ≡ false
+          off = ne-eqb m 101 (omega arith)
+
+          go : (b : Bool) → tightOf w ≡ b → Found (rounds (suc k) (searchAt w b solvesThen)) (m + length (triedIn trial (variablesOf g c) ∷ cond b [] (loopTrials trial (suc k) (variablesOf w solvesThen))))
+          go true e = rw (left (own coords x y u) (u .options) (suc k) (searchAt w true solvesThen) refl) (leaves (rw (off, e)))
+          go false e =
+              let z : m + 1 + made (suc k) w solvesThen ≡ m + suc (made (suc k) w solvesThen) = omega arith in
+              rw z at (next (leads-then p (round-goes g m c (rw (off, e)))))
+
+    rounds-lead : (k : ℕ) (g : Bracket) (m c : ℕ) → m + k ≡ 101 → Way c begun (inRound g m c) → Found (rounds (suc k) (searchAt g false c)) (m + made (suc k) g c)
+    rounds-lead zero g m c e p = last-leads g m c p (omega arith)
+    rounds-lead (suc k) g m c e p = round-leads g m c p k (omega arith) (λ q. rounds-lead k (narrowed g m c) (m + 1) (solvesThen g m c p) (omega arith) q)
+
+    -- the whole search, and as many trials as it makes
+    pub golden-leads : Found (goldenOf (own coords x y u) (u .options) lo hi) (length (goldenTrials trial lo hi))
+    unfolding goldenOf range goldenTrials openedOf
+    golden-leads =
+        let g = opened .bracket in
+        let c = opened .solves in
+        let z : 2 + made 100 g c ≡ suc (suc (made 100 g c)) = omega arith in
+        rw (← opened-is (own coords x y u) (u .options) lo hi) (rw z at (rounds-lead 99 g 2 c refl open-leads))

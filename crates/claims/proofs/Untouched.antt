@@ -32,11 +32,11 @@ use Rattle.claims.specs.Turns.{State, unwrittenFrom}
 use Rattle.claims.proofs.Cases.{either, never}
 use Rattle.claims.proofs.Holding.{Holds, holds-step}
 
-next-row : (i k : ℕ) → (i + 1) * k ≡ i * k + k
+pub next-row : (i k : ℕ) → (i + 1) * k ≡ i * k + k
 next-row i k = rw (add-one, suc-mul)
 
 -- behind a row that is put in
-put-behind : (l : List Float) (m i : ℕ) (beta : List Float) (v : Values) → (i + 1) * (m + 3) ≤ length l → m ≤ length beta → drop ((i + 1) * (m + 3)) (putRow l m i beta v) ≡ drop ((i + 1) * (m + 3)) l
+pub put-behind : (l : List Float) (m i : ℕ) (beta : List Float) (v : Values) → (i + 1) * (m + 3) ≤ length l → m ≤ length beta → drop ((i + 1) * (m + 3)) (putRow l m i beta v) ≡ drop ((i + 1) * (m + 3)) l
 unfolding putRow
 put-behind l m i beta v h few =
     let e = next-row i (m + 3) in
@@ -83,7 +83,7 @@ module _ (q : ℕ) (out₀ : List Float) where
   abbrev Behind : ℕ → List Float → Type 0
   Behind k out = drop (k * q) out ≡ drop (k * q) out₀
 
-  farther : (i : ℕ) (out : List Float) → Behind i out → Behind (i + 1) out
+  pub farther : (i : ℕ) (out : List Float) → Behind i out → Behind (i + 1) out
   farther i out h = rw (next-row i q, ← drop-drop q (i * q) out, ← drop-drop q (i * q) out₀, h)
 
 -- the numbers from the first unwritten row on are those of out₀
@@ -110,7 +110,7 @@ step-behind d j out₀ out z within room live h = go (j .stage) (solveOf d j .ou
     go Final (outcome.Refused r) l h = farther (j .setup .p + 4) out₀ (j .location) out h
     go (Ended c) o l h = never (sym l)
 
-step-untouched : (d : Data) (u : Setup) (long : ℕ) (out₀ : List Float) (s : State) → u .n * (u .p + 4) ≤ long → Holds u long s → overOf s ≡ false → Untouched u out₀ s → Untouched u out₀ (stepOf d s)
+pub step-untouched : (d : Data) (u : Setup) (long : ℕ) (out₀ : List Float) (s : State) → u .n * (u .p + 4) ≤ long → Holds u long s → overOf s ≡ false → Untouched u out₀ s → Untouched u out₀ (stepOf d s)
 unfolding stepOf stepJob
 step-untouched d u long out₀ s room h live b =
     let j = s .0 in

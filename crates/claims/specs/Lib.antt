@@ -1,3 +1,8 @@
 pub mod Whole
 pub mod Turns
-pub mod Claim
+pub mod Conditions
+pub mod DemandOne
+pub mod DemandTwo
+pub mod DemandThree
+pub mod Examples
+pub mod Played

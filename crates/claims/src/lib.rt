@@ -1,1 +1,1 @@
-// Claims about turns and the uninterrupted fit, in specs/ and proofs/. There is no code here.
+// The three demands and document 01's examples, stated in specs/ and proved in proofs/. There is no code here.

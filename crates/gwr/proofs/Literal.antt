@@ -76,7 +76,7 @@ variablesOf g k =
     record { a = g .a; b = g .b; c = g .c; d = g .d; h = g .h; fc = g .fc; fd = g .fd; bestX = g .best; bestF = g .low; solves = k }
 
 -- a round is the loop's body
-body-is : (f : Float → Trial) (g : Bracket) (k : ℕ) → let t = f (aimOf g) in variablesOf (narrowOf g (t .score)) (k + t .solves) ≡ loopBody f (variablesOf g k)
+pub body-is : (f : Float → Trial) (g : Bracket) (k : ℕ) → let t = f (aimOf g) in variablesOf (narrowOf g (t .score)) (k + t .solves) ≡ loopBody f (variablesOf g k)
 unfolding aimOf round-000 loopBody
 body-is f g k = ap (λ (z : Bracket). variablesOf z (k + f (aimOf g) .solves)) (round-is (λ (x : Float). f x .score) g) ∙ go (lt (g .fc) (g .fd)) refl
   where
@@ -89,13 +89,13 @@ module _ (d : Data) (o : GwrOptions) where
   score = trialOf d o
 
   -- rounds after the loop was left
-  left : (k : ℕ) (s : Search) → s .over ≡ true → turns (roundOf d o) 0 k s ≡ s
+  pub left : (k : ℕ) (s : Search) → s .over ≡ true → turns (roundOf d o) 0 k s ≡ s
   unfolding turns roundOf
   left zero s e = refl
   left (suc k) s e = rw (left k s e, e)
 
   -- the first of the rounds apart
-  front : (k : ℕ) (s : Search) → turns (roundOf d o) 0 (suc k) s ≡ turns (roundOf d o) 0 k (roundOf d o 0 s)
+  pub front : (k : ℕ) (s : Search) → turns (roundOf d o) 0 (suc k) s ≡ turns (roundOf d o) 0 k (roundOf d o 0 s)
   unfolding turns roundOf
   front zero s = refl
   front (suc k) s = ap (roundOf d o (0 + suc k)) (front k s)
@@ -125,7 +125,7 @@ module _ (d : Data) (o : GwrOptions) where
   trial-num point = score-num _
 
   -- the lines before the loop
-  opened-is : (lo hi : Float) → let s = openedOf d o (startOf lo hi) in variablesOf (s .bracket) (s .solves) ≡ beforeLoop score lo hi
+  pub opened-is : (lo hi : Float) → let s = openedOf d o (startOf lo hi) in variablesOf (s .bracket) (s .solves) ≡ beforeLoop score lo hi
   unfolding openedOf startOf secondOf
   opened-is lo hi = go (le x y) refl
     where

@@ -77,7 +77,9 @@ module _ (coords x y : List Float) (p : ℕ) (o : GwrOptions) (out : List Float)
     pub bound : count ≤ 103 * n
     -- in the final fit and after it, the record's current bandwidth is that of the uninterrupted fit's final fit
     pub settles : settled (s .0 .stage) ≡ true → s .0 .bandwidth ≡ bandwidth
-    -- which is at the point that `golden_section_min` finds, if it is sought with lo below hi
+    -- and its trials are those that the fit made
+    pub tried : settled (s .0 .stage) ≡ true → s .0 .trials ≡ length trials
+    -- the bandwidth is at the point that `golden_section_min` finds, if it is sought with lo below hi
     pub final : whole ≡ finalOf ownData o bandwidth (searchSolves ownPlan ownData o) out
     -- where trials were made, it is that of the earliest trial whose score is at most that of every other trial
     pub best : 0 < length trials → (t : Scored) × Earliest t trials × (bandwidth ≡ bandwidthAt (o .bandwidth) (t .point) n p)

@@ -1,0 +1,97 @@
+-- Demand 2 holds: `demand-two`, at the end. Each part is a theorem of the crate that has the definition.
+use mathlib.Core.Path.{_≡_, refl, ap, subst⁻¹}
+use mathlib.Core.Bool.{Bool, true, false, not}
+use mathlib.Core.List.{List, [], _∷_}
+use mathlib.Core.Logic.{inl, inr}
+use Prim.Native.Nat.{ℕ, zero, suc, _+_, _*_, _/_, _≤_, _<_}
+use native.Mathlib.Omega.{arith}
+use lib.Dec.{T}
+use lib.ListN.{length, getD}
+use lib.Ieee.{Float, nan, isNan}
+use lib.Ieee.Scale.{finite}
+use Rattle.root.proofs.Nearest.{root-nearest, root-of-negative, root-of-nan, root-of-infinity, root-of-zero}
+use Rattle.elementary.proofs.ExpRange.{exp-in, K-le}
+use Rattle.elementary.proofs.LnRange.{ln-finite}
+use Rattle.elementary.proofs.SplitExact.{split-exact}
+use Rattle.kernel.proofs.DistanceRange.{distance-number}
+use Rattle.kernel.proofs.WeightRange.{weights-in, weight-zero}
+use Rattle.kernel.proofs.Published.{weight-rounded, weight-apart, gaussian-exact, bisquare-exact, bisquare-outside, exponential-exact, minus-once, times-once, over-once}
+use Rattle.neighbours.specs.Walk.{between}
+use Rattle.neighbours.proofs.Roots.{ceil-root-least}
+use Rattle.neighbours.proofs.Smallest.{kept-smallest, bandwidth-is-kth, all-met}
+use Rattle.normal.proofs.WeightSum.{weight-sum}
+use Rattle.criterion.proofs.Published.{published-exact, aicc-rounded, aicc-refused, aicc-exhausted, aicc-floored}
+use Rattle.golden.proofs.Round.{G-is, G2-is}
+use Rattle.plan.specs.declared.GwrOptions.{GwrOptions}
+use Rattle.plan.specs.declared.Plan.{Plan}
+use Rattle.gwr.specs.Fit.{planned, jobData, fitOf}
+use Rattle.gwr.proofs.Literal.{fit-literal}
+use Rattle.claims.specs.Conditions.{None, SomeNotFinite, inputConditions}
+use Rattle.claims.specs.DemandTwo.{DemandTwo}
+
+-- ---- the coordinates of an accepted job are finite
+
+finite-at : (l : List Float) → (SomeNotFinite l → ⊥) → (j : ℕ) → j < length l → T (finite (getD l j nan))
+finite-at [] h j k = absurd (omega arith)
+finite-at (v ∷ l) h zero k = go (finite v) refl
+  where
+    go : (b : Bool) → finite v ≡ b → T (finite v)
+    go true e = subst⁻¹ T e tt
+    go false e = absurd (h (inl (subst⁻¹ (λ (z : Bool). T (not z)) e tt)))
+finite-at (v ∷ l) h (suc j) k = finite-at l (λ z. h (inr z)) j (omega arith)
+
+module _ (coords x y : List Float) (p : ℕ) (o : GwrOptions) (out : ℕ) (accepted : None (inputConditions coords x y p o out)) where
+  abbrev n : ℕ
+  n = length coords / 2
+
+  places : (c : ℕ) → c < 2 * n → T (finite (getD coords c nan))
+  places c h = finite-at coords (accepted .1 .1 .1 .1 .1 .1 .1 .1 .0) c (omega arith)
+
+  few : n ≤ 512
+  few = let h : 512 < n → ⊥ = accepted .1 .1 .0 in omega arith
+
+  -- no distance between its places is NaN
+  numbers : (i : ℕ) → i < n → (j : ℕ) → j < n → T (not (isNan (between coords i j)))
+  unfolding between
+  numbers i h j l =
+      let at : ℕ → Float = λ (c : ℕ). getD coords c nan in
+      distance-number (at (2 * i)) (at (2 * i + 1)) (at (2 * j)) (at (2 * j + 1)) (places (2 * i) (omega arith)) (places (2 * i + 1) (omega arith)) (places (2 * j) (omega arith)) (places (2 * j + 1) (omega arith))
+
+pub demand-two : DemandTwo
+unfolding fitOf
+demand-two =
+    record {
+      settled = λ coords x y p o out b e. ap (λ (q : Plan). planned q (jobData coords x y p) o out) e;
+      searched = fit-literal;
+      ratio = (G-is, G2-is);
+      root-nearest = root-nearest;
+      root-negative = root-of-negative;
+      root-own = (root-of-nan, root-of-infinity, root-of-zero);
+      exp-range = exp-in;
+      exp-halvings = K-le;
+      ln-finite = ln-finite;
+      ln-split = split-exact;
+      kernel-formula = weight-rounded;
+      kernel-spot = weight-apart;
+      gaussian = gaussian-exact;
+      bisquare = bisquare-exact;
+      bisquare-outside = bisquare-outside;
+      exponential = exponential-exact;
+      minus-once = minus-once;
+      times-once = times-once;
+      over-once = over-once;
+      weight-range = weights-in;
+      weight-own = weight-zero;
+      weight-sum =
+          λ coords x y p o out a i h k b. weight-sum (jobData coords x y p) k i b (places coords x y p o out a) h (few coords x y p o out a);
+      kth-smallest = λ coords x y p o out a i k h some. bandwidth-is-kth coords i k some (length coords / 2) h (places coords x y p o out a);
+      all-distances = all-met;
+      ascending =
+          λ coords x y p o out a i h. kept-smallest coords i 1 (omega arith) (length coords / 2) (λ j l _. numbers coords x y p o out a i h j l) .up;
+      least-root = ceil-root-least;
+      aicc-formula = aicc-rounded;
+      aicc-order = published-exact;
+      aicc-zero = aicc-floored;
+      aicc-exhausted = aicc-exhausted;
+      aicc-refused = aicc-refused;
+    }

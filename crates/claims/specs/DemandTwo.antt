@@ -1,0 +1,125 @@
+-- Demand 2: document 01 sets the steps of exp and ln and adds limits; else the Rust rules. Kernels, golden section, AICc and square root are held against their published definitions, the listed spots apart.
+-- Definitions only; proofs/DemandTwo proves it, each part by a theorem of the crate that has the definition.
+-- That `gwr_fit` equals `fitOf`, in every bit of its answer and its output and on every input, is its contract; `fitOf` is 000's `gwr_fit` line by line. Here is what it says beyond that.
+use Prim.Native.Nat.{ℕ, _+_, _-_, _*_, _/_, _%_, _^_, _≤_, _<_}
+use mathlib.Core.Path.{_≡_}
+use mathlib.Core.Bool.{Bool, true, false, not, cond}
+use mathlib.Core.List.{List, List·Permᴰ}
+use lib.Dec.{T}
+use lib.IntN.{pos}
+use lib.ListN.{length}
+use lib.Ieee.{Float, nan, inf, fin, binary64, lt, le, eq, fits, isNan, toBits}
+use lib.Ieee.Scale.{finite}
+use lib.Ieee.Positive.{num}
+use Rattle.real.specs.Reals.{zero64, one64}
+use Rattle.root.specs.Root.{root, inf64}
+use Rattle.root.proofs.Nearest.{NearestRoot}
+use Rattle.exponent_table.specs.Reduction.{nought, one, floor708, expK}
+use Rattle.elementary.specs.Exp.{expv}
+use Rattle.elementary.specs.Ln as ln
+use Rattle.elementary.proofs.LnRange.{LnFinite}
+use Rattle.elementary.proofs.SplitExact.{SplitAs}
+use Rattle.refusal.specs.declared.Refusal.the-variants.{DeviationNotFinite}
+use Rattle.kernel.specs.declared.GwrKernel.{GwrKernel}
+use Rattle.kernel.specs.declared.GwrKernel.the-variants.{Gaussian, Bisquare, Exponential}
+use Rattle.kernel.specs.Weight.{unusable, weightOf, FromZeroToOne}
+use Rattle.kernel.specs.Published as kernels
+use Rattle.neighbours.specs.declared.GwrBandwidth.{GwrBandwidth}
+use Rattle.neighbours.specs.Count.{ceilRoot}
+use Rattle.neighbours.specs.Walk.{nearestOf}
+use Rattle.neighbours.specs.Smallest.{allOf, metOf, Ascending, kthNearest}
+use Rattle.neighbours.proofs.Roots.{LeastRoot}
+use Rattle.normal.specs.Weights.{weightsAt}
+use Rattle.criterion.specs.declared.Criterion.the-variants as criterion
+use Rattle.criterion.specs.Aicc.{realOf, leastNormal, freedom, exhausted, correctedAic}
+use Rattle.criterion.specs.Published as aicc
+use Rattle.golden.specs.Golden.{invPhi, invPhi2, G, G2}
+use Rattle.plan.specs.declared.GwrOptions.{GwrOptions}
+use Rattle.plan.specs.declared.Plan.the-variants as plan
+use Rattle.plan.specs.Plan.{acceptOf, bandwidthAt}
+use Rattle.gwr.specs.Search.{trialOf, goldenSectionMin}
+use Rattle.gwr.specs.Fit.{finalOf, jobData, fitOf}
+use Rattle.claims.specs.Conditions.{None, inputConditions}
+
+pub record DemandTwo : Type 0 where
+  -- ---- golden section: 000's `golden_section_min` as it is written
+
+  -- an unsearched fit, and a search with no trial, are a final fit at once
+  pub settled : (coords x y : List Float) (p : ℕ) (o : GwrOptions) (out : List Float) (b : GwrBandwidth) → acceptOf coords x y p o (length out) ≡ plan.Settled b
+      → fitOf coords x y p o out ≡ finalOf (jobData coords x y p) o b 0 out
+  -- a searched one is a final fit at the point that `golden_section_min` finds, after its solves
+  pub searched : (coords x y : List Float) (p : ℕ) (o : GwrOptions) (out : List Float) (lo hi : Float) → acceptOf coords x y p o (length out) ≡ plan.Sought lo hi →
+      let d = jobData coords x y p in
+      let m = goldenSectionMin (trialOf d o) lo hi in
+      fitOf coords x y p o out ≡ finalOf d o (bandwidthAt (o .bandwidth) (m .0) (d .n) (d .p)) (m .1) out
+  -- the constants of the code are the root of 5, less 1, over 2, and its square, as 000 works them out
+  pub ratio : (G ≡ invPhi) × (G2 ≡ invPhi2)
+  -- ---- the square root: IEEE 754, nearest, ties to the even last bit
+
+  -- of a positive finite number every other binary64 lies farther from the exact root, so that no tie occurs
+  pub root-nearest : (x : Float) → T (fits binary64 x) → T (lt zero64 x) → T (lt x inf64) → NearestRoot x (root x)
+  -- a negative number's is NaN; zero, +infinity and NaN are their own
+  pub root-negative : (x : Float) → T (lt x zero64) → root x ≡ nan
+  pub root-own : (root nan ≡ nan) × (root (inf false) ≡ inf false) × ((s : Bool) → root (fin s 0 (pos 0)) ≡ fin s 0 (pos 0))
+  -- ---- exp and ln: 01's steps
+
+  -- exp of v ≤ 0 is finite and lies from 0 to 1; 2^-K stays normal
+  pub exp-range : (v : Float) → T (not (isNan v)) → T (le v nought) → T (finite (expv v)) × T (le nought (expv v)) × T (le (expv v) one)
+  pub exp-halvings : (v : Float) → T (le floor708 v) → T (le v nought) → expK v ≤ 1021
+  -- of a positive normal number every step of ln is finite, and v is m·2^e exactly
+  pub ln-finite : (v : Float) → T (fits binary64 v) → T (le ln.leastNormal v) → T (lt v (inf false)) → LnFinite v
+  pub ln-split : (v : Float) → T (fits binary64 v) → T (le ln.leastNormal v) → T (lt v (inf false))
+      → SplitAs v (2 ^ 52 + toBits binary64 v % 2 ^ 52) (toBits binary64 v / 2 ^ 52)
+  -- ---- kernels: Fotheringham, Brunsdon and Charlton 2002
+
+  -- the published formula with each operation rounded once
+  pub kernel-formula : (k : GwrKernel) (d b : Float) → T (not (unusable b)) → weightOf k d b ≡ kernels.formula kernels.rounded k d b
+  -- the listed spot: b not finite or b ≤ 0
+  pub kernel-spot : (k : GwrKernel) (d b : Float) → T (unusable b) → weightOf k d b ≡ cond (eq d zero64) one64 zero64
+  -- on fractions, where nothing is rounded, the formulas are exp(-(d/b)²/2), (1 - (d/b)²)² below b and 0 from there on, exp(-d/b); here d/b is (a/c)/(p/q)
+  pub gaussian : (a c p q : ℕ) → kernels.formula kernels.exact Gaussian (kernels.fraction false a c) (kernels.fraction false p q)
+      ≡ kernels.power (kernels.fraction true (a * q * (a * q)) (2 * (p * c * (p * c))))
+  pub bisquare : (a c p q : ℕ) → a * q < p * c →
+      let u = p * c * (p * c) - a * q * (a * q) in
+      kernels.formula kernels.exact Bisquare (kernels.fraction false a c) (kernels.fraction false p q) ≡ kernels.plain (kernels.fraction false (u * u) (p * c * (p * c) * (p * c * (p * c))))
+  pub bisquare-outside : (a c p q : ℕ) → p * c ≤ a * q → kernels.formula kernels.exact Bisquare (kernels.fraction false a c) (kernels.fraction false p q) ≡ kernels.plain (kernels.fraction false 0 1)
+  pub exponential : (a c p q : ℕ) → kernels.formula kernels.exact Exponential (kernels.fraction false a c) (kernels.fraction false p q) ≡ kernels.power (kernels.fraction true (a * q) (p * c))
+  -- and an operation is that of fractions, rounded once to the nearest
+  pub minus-once : (x y : Float) → T (finite x) → T (finite y) → kernels.rounded .minus x y ≡ kernels.nearest64 (kernels.exact .minus (kernels.fractionOf x) (kernels.fractionOf y))
+  pub times-once : (x y : Float) → T (finite x) → T (finite y) → kernels.rounded .times x y ≡ kernels.nearest64 (kernels.exact .times (kernels.fractionOf x) (kernels.fractionOf y))
+  pub over-once : (x y : Float) → T (finite x) → T (finite y) → 0 < num y → kernels.rounded .over x y ≡ kernels.nearest64 (kernels.exact .over (kernels.fractionOf x) (kernels.fractionOf y))
+  -- every weight of a non-negative distance lies from 0 to 1, and a location's own weight is 1
+  pub weight-range : (k : GwrKernel) (d b : Float) → T (le zero64 d) → FromZeroToOne (weightOf k d b)
+  pub weight-own : (k : GwrKernel) (s : Bool) (b : Float) → weightOf k (fin s 0 (pos 0)) b ≡ one64
+  -- 000's refusal of a weight sum not above zero never occurs: it is finite and above 0 at every location of every accepted job, whichever bandwidth
+  pub weight-sum : (coords x y : List Float) (p : ℕ) (o : GwrOptions) (out : ℕ) → None (inputConditions coords x y p o out) → (i : ℕ) → i < length coords / 2 → (k : GwrKernel) (b : Float) →
+      let sum = weightsAt (jobData coords x y p) k i b .1 in
+      T (finite sum) × T (lt zero64 sum)
+  -- ---- neighbours
+
+  -- a location's bandwidth is its k-th smallest distance to the others (`allOf`), if that is zero the greatest of them and EPS
+  pub kth-smallest : (coords x y : List Float) (p : ℕ) (o : GwrOptions) (out : ℕ) → None (inputConditions coords x y p o out) → (i k : ℕ) → i < length coords / 2 → 1 ≤ k
+      → nearestOf coords (length coords / 2) i k ≡ kthNearest coords (length coords / 2) i k
+  -- `allOf` has every one of them, in ascending order
+  pub all-distances : (coords : List Float) (i m : ℕ) → List·Permᴰ (allOf coords i m) (metOf coords i m)
+  pub ascending : (coords x y : List Float) (p : ℕ) (o : GwrOptions) (out : ℕ) → None (inputConditions coords x y p o out) → (i : ℕ) → i < length coords / 2
+      → Ascending (allOf coords i (length coords / 2))
+  -- count 0 is the larger of 2 and the least whole number whose square is at least n
+  pub least-root : (n : ℕ) → LeastRoot n (ceilRoot n)
+  -- ---- AICc: Fotheringham, Brunsdon and Charlton 2002
+
+  -- the published formula in 000's order, each operation rounded once
+  pub aicc-formula : (n : ℕ) (rss trace : Float) →
+      let sigma = aicc.sigmaOf aicc.rounded (realOf n) rss in
+      T (finite sigma) → T (not (le sigma zero64)) → T (not (exhausted (freedom (realOf n) trace)))
+      → correctedAic n rss trace ≡ criterion.Value (aicc.formula aicc.rounded (realOf n) sigma trace)
+  -- 000's order is that of the publication where a product and a quotient may change places, as exact fractions do
+  pub aicc-order : (pi : aicc.Fraction) (root ln : aicc.Fraction → aicc.Fraction) (n sigma trace : aicc.Fraction)
+      → aicc.published (aicc.exact pi root ln) n sigma trace ≡ aicc.formula (aicc.exact pi root ln) n sigma trace
+  -- the listed spots: a root of mean square of 0 is replaced by 2^-1022, |D| ≤ EPS gives +infinity, and one not finite is refusal 17
+  pub aicc-zero : (n : ℕ) (rss trace : Float) →
+      let sigma = aicc.sigmaOf aicc.rounded (realOf n) rss in
+      T (finite sigma) → T (le sigma zero64) → T (not (exhausted (freedom (realOf n) trace)))
+      → correctedAic n rss trace ≡ criterion.Value (aicc.formula aicc.rounded (realOf n) leastNormal trace)
+  pub aicc-exhausted : (n : ℕ) (rss trace : Float) → T (finite (aicc.sigmaOf aicc.rounded (realOf n) rss)) → T (exhausted (freedom (realOf n) trace)) → correctedAic n rss trace ≡ criterion.Value (inf false)
+  pub aicc-refused : (n : ℕ) (rss trace : Float) → T (not (finite (aicc.sigmaOf aicc.rounded (realOf n) rss))) → correctedAic n rss trace ≡ criterion.Refused DeviationNotFinite
