@@ -22,6 +22,8 @@ use Rattle.neighbours.proofs.Smallest.{kept-smallest, bandwidth-is-kth, all-met
 use Rattle.normal.proofs.WeightSum.{weight-sum}
 use Rattle.criterion.proofs.Published.{published-exact, aicc-rounded, aicc-refused, aicc-exhausted, aicc-floored}
 use Rattle.golden.proofs.Round.{G-is, G2-is}
+use Rattle.golden.proofs.Kiefer.{round-kiefer, searched, round-narrows}
+use Rattle.local.proofs.NormalEquations.{normal-equations}
 use Rattle.plan.specs.declared.GwrOptions.{GwrOptions}
 use Rattle.plan.specs.declared.Plan.{Plan}
 use Rattle.gwr.specs.Fit.{planned, jobData, fitOf}
@@ -64,6 +66,10 @@ demand-two =
       settled = λ coords x y p o out b e. ap (λ (q : Plan). planned q (jobData coords x y p) o out) e;
       searched = fit-literal;
       ratio = (G-is, G2-is);
+      round-kiefer = round-kiefer;
+      points-inside = searched;
+      round-narrows = round-narrows;
+      normal-equations = normal-equations;
       root-nearest = root-nearest;
       root-negative = root-of-negative;
       root-own = (root-of-nan, root-of-infinity, root-of-zero);

@@ -30,10 +30,14 @@ use Rattle.neighbours.specs.Walk.{nearestOf}
 use Rattle.neighbours.specs.Smallest.{allOf, metOf, Ascending, kthNearest}
 use Rattle.neighbours.proofs.Roots.{LeastRoot}
 use Rattle.normal.specs.Weights.{weightsAt}
+use Rattle.local.specs.Estimate as estimate
+use Rattle.local.specs.NormalEquations.{ExactFit, Solves}
 use Rattle.criterion.specs.declared.Criterion.the-variants as criterion
 use Rattle.criterion.specs.Aicc.{realOf, leastNormal, freedom, exhausted, correctedAic}
 use Rattle.criterion.specs.Published as aicc
-use Rattle.golden.specs.Golden.{invPhi, invPhi2, G, G2}
+use Rattle.golden.specs.declared.Bracket.{Bracket}
+use Rattle.golden.specs.Golden.{invPhi, invPhi2, G, G2, narrowOf}
+use Rattle.golden.specs.Kiefer.{Span, Framed, Ordered, KieferRound, Narrowed, Searched}
 use Rattle.plan.specs.declared.GwrOptions.{GwrOptions}
 use Rattle.plan.specs.declared.Plan.the-variants as plan
 use Rattle.plan.specs.Plan.{acceptOf, bandwidthAt}
@@ -54,6 +58,16 @@ pub record DemandTwo : Type 0 where
       fitOf coords x y p o out ≡ finalOf d o (bandwidthAt (o .bandwidth) (m .0) (d .n) (d .p)) (m .1) out
   -- the constants of the code are the root of 5, less 1, over 2, and its square, as 000 works them out
   pub ratio : (G ≡ invPhi) × (G2 ≡ invPhi2)
+  -- Kiefer 1953: a round keeps the part about the lower score, reuses one inner point and its score, and makes one new trial
+  pub round-kiefer : (g : Bracket) (s : Float) → KieferRound g (narrowOf g s) s
+  -- of any number of rounds, every point tried lies from lo to hi, rounding included, and the answer is a point tried
+  pub points-inside : {lo hi : Float} → Span lo hi → (s t : Float) (l : List Float) → Searched lo hi s t l
+  -- a bracket lies within the one before while its inner points are in order; the listed spot: rounding can put them out of order
+  pub round-narrows : (g : Bracket) (s : Float) → Framed g → Ordered g → Narrowed g (narrowOf g s)
+  -- ---- the local solve: Fotheringham, Brunsdon and Charlton 2002
+
+  -- where nothing was rounded, the coefficients solve (XᵀWX) β = XᵀWy
+  pub normal-equations : (x y w : List Float) (n p : ℕ) → ExactFit x y w n p → Solves x y w n p (estimate.fitOf x y w n p .0 .beta)
   -- ---- the square root: IEEE 754, nearest, ties to the even last bit
 
   -- of a positive finite number every other binary64 lies farther from the exact root, so that no tie occurs
