@@ -1,0 +1,23 @@
+#!/usr/bin/env bash
+# The table of definitions in README: every file of specs/ stands in it once, with the number of its lines.
+# `reading.sh` says what is wrong with it; `reading.sh fix` writes the numbers anew.
+set -u
+cd "$(dirname "$0")/.." || exit 2
+
+rows() { grep -oE '^\| crates/[a-z_]+/specs/[A-Za-z]+\.antt \| [0-9]*' README.md; }
+
+if [ "${1:-}" = fix ]; then
+    rows | while IFS='|' read -r _ file _; do
+        file=${file// /}
+        sed -i -E "s#^\| $file \| [0-9]* #| $file | $(wc -l <"$file") #" README.md
+    done
+fi
+
+wanted=$(find crates -path '*/specs/*.antt' ! -name Lib.antt | sort)
+listed=$(rows | cut -d' ' -f2 | sort)
+wrong=$(diff <(echo "$wanted") <(echo "$listed") | grep '^[<>]')
+wrong+=$(rows | while IFS='|' read -r _ file lines; do
+    file=${file// /}
+    [ "$(wc -l <"$file")" -eq "${lines:-0}" ] || echo "$file has not $lines lines"
+done 2>&1)
+[ -z "$wrong" ] || { echo "$wrong"; exit 1; }
