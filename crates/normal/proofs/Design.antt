@@ -12,7 +12,7 @@ use lib.Ieee.{Float, nan, binary64, add, mul}
 use Rattle.real.specs.Fold.{turns, range}
 use Rattle.real.specs.Reals.{zero64, one64}
 use Rattle.normal.specs.Normal.{Row, Matrix, designStep, designRow, cellStep, rowAdded, observeStep, observed}
-use Rattle.normal.proofs.Front.{front}
+use Rattle.real.proofs.Fold.{front}
 
 module _ (x : List Float) (p j : ℕ) where
   -- the design row with its first n predictors in place

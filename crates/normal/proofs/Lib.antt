@@ -1,3 +1,2 @@
 pub mod Design
-pub mod Front
 pub mod WeightSum

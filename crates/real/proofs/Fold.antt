@@ -36,3 +36,14 @@ module _ {S : Type 0} (f : ℕ → S → S) (a b : ℕ) (P : S → Type 0) (keep
   pub kept : (s : S) → a ≤ b → P s → P (range f a b s)
   unfolding range
   kept s h p = kept-turns (b - a) s (omega arith) p
+
+-- the fold begun with its first turn apart
+module _ {S : Type 0} (f : ℕ → S → S) (a : ℕ) (s : S) where
+  turns-front : (n : ℕ) → turns f a (suc n) s ≡ turns f (a + 1) n (f a s)
+  unfolding turns
+  turns-front zero = let k : a + 0 ≡ a = omega arith in rw k
+  turns-front (suc n) = let k : a + suc n ≡ a + 1 + n = omega arith in rw k (ap (f (a + 1 + n)) (turns-front n))
+
+  pub front : (b : ℕ) → a < b → range f a b s ≡ range f (a + 1) b (f a s)
+  unfolding range
+  front b h = let k : b - a ≡ suc (b - (a + 1)) = omega arith in rw k (turns-front (b - (a + 1)))
