@@ -1,9 +1,10 @@
 # make test: every proof, must-fail edit, program, stored run, Rust test and the comparison with 000.
 # make fit: the example table fitted by the Rust command. make listing: the printing program on a small job.
+# make instructions: instructions of fits, counted.
 # make compare N=100000: the comparison with that many random jobs. make store: stored answers of 000 anew, for crates/replay.
 # make bench: times against 000, and the stack of a fit; make bench ARGS="5 growth stack": of five runs, two of the tables.
 # make fuzz SECONDS=60: the byte calls fuzzed from outside. make planted: the same, over planted faults that must be noticed.
-.PHONY: test rust fit listing compare bench store fuzz planted fmt
+.PHONY: test rust fit listing compare bench instructions store fuzz planted fmt
 
 CARGO = cd rust && cargo run --offline --release --quiet --package
 
@@ -26,6 +27,9 @@ compare:
 
 bench:
 	@$(CARGO) bench -- $(ARGS)
+
+instructions:
+	@bash scripts/instructions.sh
 
 store:
 	@$(CARGO) oracle --bin store -- 360 >../crates/replay/stdin.new

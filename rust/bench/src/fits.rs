@@ -106,3 +106,21 @@ pub fn growth(repeats: usize) {
         }
     }
 }
+
+/// One fit by one side, for a count of its instructions: words are n, p, the numbers of kernel and kind, and the side: `proved`,
+/// `steps`, `platform`, or `none` for what comes before the fit.
+pub fn once(words: &[String]) -> Option<()> {
+    let [n, p, kernel, kind, side] = words else {
+        return None;
+    };
+    let number = |word: &String| word.parse().ok();
+    let job = job(number(n)?, number(p)?, number(kernel)?, number(kind)?);
+    match side.as_str() {
+        "proved" => drop(black_box(compare::proved(&job))),
+        "steps" => drop(black_box(oracle::steps::fit(&job))),
+        "platform" => drop(black_box(oracle::platform::fit(&job))),
+        "none" => {}
+        _ => return None,
+    }
+    Some(())
+}

@@ -1,6 +1,8 @@
 //! Times of the proved code against 000, in the same run, and the stack that a fit takes: `bench [REPEATS] [TABLE..]`, with the
 //! tables `fits`, `growth`, `weights`, `elementary`, `turns` and `stack`, all of them if none is named.
 //!
+//! `bench once N P KERNEL KIND SIDE` makes one fit, for scripts/instructions.sh.
+//!
 //! Each line has the medians of the sides and their ratios (proved by the other; below 1 the proved code is faster).
 
 mod fits;
@@ -17,6 +19,12 @@ fn main() -> ExitCode {
         return ExitCode::from(3);
     }
     let mut words: Vec<String> = std::env::args().skip(1).collect();
+    if words.first().is_some_and(|w| w == "once") {
+        return match fits::once(&words[1..]) {
+            Some(()) => ExitCode::SUCCESS,
+            None => ExitCode::from(2),
+        };
+    }
     let given = words.first().and_then(|w| w.parse().ok());
     if given.is_some() {
         words.remove(0);

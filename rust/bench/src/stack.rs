@@ -1,6 +1,7 @@
-//! How much stack a fit takes: it runs on a thread whose stack was filled with a pattern, and the pattern says how far it came.
+//! How much stack a fit and a turn take: each runs on a thread whose stack was filled with a pattern, and the pattern says how far it came.
 
 use crate::fits::{KERNELS, KINDS, job};
+use crate::turns::Lent;
 use oracle::Job;
 use std::alloc::{Layout, alloc, dealloc};
 use std::ffi::c_void;
@@ -102,7 +103,23 @@ fn fit_bytes(job: &Job) -> usize {
     }
 }
 
-/// The stack of fits of the smallest and the largest jobs.
+extern "C" fn turns(argument: *mut c_void) -> *mut c_void {
+    // SAFETY: `turn_bytes` passes what is lent to turns, which nothing else uses until the thread has ended.
+    let lent = unsafe { &mut *argument.cast::<Lent>() };
+    lent.turns(1, 2);
+    null_mut()
+}
+
+/// Bytes of stack of a job's beginning and two turns of one solve, beyond those of a thread that does nothing.
+fn turn_bytes(mut lent: Lent) -> usize {
+    // SAFETY: `nothing` reads nothing, and `turns` what it gets, which outlives the thread.
+    unsafe {
+        let none = touched(nothing, null::<c_void>().cast_mut());
+        touched(turns, (&raw mut lent).cast()) - none
+    }
+}
+
+/// The stack of fits of the smallest and the largest jobs, and of turns.
 pub fn stacks() {
     println!("| n | p | kernel | bandwidth | bytes of stack |");
     println!("|---|---|---|---|---|");
@@ -118,6 +135,13 @@ pub fn stacks() {
                 KERNELS[0], KINDS[kind as usize]
             );
         }
+    }
+    for (n, p) in [(2, 0), (512, 7)] {
+        let bytes = turn_bytes(Lent::new(n, p, 0));
+        println!(
+            "| {n} | {p} | {} | distance, in turns | {bytes} |",
+            KERNELS[0]
+        );
     }
 }
 

@@ -25,7 +25,7 @@ mod linked {
 }
 
 /// A job's numbers, and room for its rows.
-struct Lent {
+pub struct Lent {
     coords: Vec<f64>,
     x: Vec<f64>,
     y: Vec<f64>,
@@ -35,7 +35,7 @@ struct Lent {
 }
 
 impl Lent {
-    fn new(n: u64, p: u64, kernel: u32) -> Self {
+    pub fn new(n: u64, p: u64, kernel: u32) -> Self {
         let job = job(n, p, u64::from(kernel), 0);
         Lent {
             coords: reals(&job.coords),
@@ -48,7 +48,7 @@ impl Lent {
     }
 
     /// Begins the job and takes it through so many turns; the solves that it has made.
-    fn turns(&mut self, allowance: u32, turns: u32) -> u64 {
+    pub fn turns(&mut self, allowance: u32, turns: u32) -> u64 {
         // SAFETY: each pointer comes with the length of its slice, the output's is lent exclusively, and the call is proved to
         // stay in them.
         unsafe {
