@@ -18,7 +18,7 @@ abbrev Number : Float → Type 0
 Number x = T (not (isNan x))
 
 -- ---- a difference of finite numbers is no NaN
-nonneg-number : (x : Float) → T (nonneg x) → Number x × Number (neg x)
+pub nonneg-number : (x : Float) → T (nonneg x) → Number x × Number (neg x)
 unfolding isNan neg
 nonneg-number nan p = absurd p
 nonneg-number (inf s) p = (tt, tt)
@@ -47,7 +47,7 @@ difference-number (fin s m e) (inf t) p q = absurd q
 difference-number (fin s m e) (fin t n d) p q = sum-number binary64 s (m * up e * down d) (not t) (n * up d * down e) (down e * down d)
 
 -- ---- squares, their sum and its root have a clear sign
-square-nonneg : (x : Float) → Number x → T (nonneg (mul binary64 x x))
+pub square-nonneg : (x : Float) → Number x → T (nonneg (mul binary64 x x))
 unfolding mul isNan
 square-nonneg nan p = absurd p
 square-nonneg (inf true) p = tt
@@ -87,7 +87,7 @@ root-units-nonneg : (n : ℕ) → T (nonneg (rootUnits n))
 unfolding rootUnits
 root-units-nonneg n = let h = (size n + 1) / 2 in units-nonneg binary64 (nearestRoot (n * 2 ^ 106 / 4 ^ h)) (h + 484)
 
-not-below : (x : Float) → T (nonneg x) → lt x (fin false 0 (pos 0)) ≡ false
+pub not-below : (x : Float) → T (nonneg x) → lt x (fin false 0 (pos 0)) ≡ false
 unfolding lt
 not-below nan p = refl
 not-below (inf true) p = absurd p
@@ -97,7 +97,7 @@ not-below (fin false m e) p =
     untrue (ltb (m * up e * 1) (0 * down e))
     (λ t. not-suc-le-zero (subst (λ (z : ℕ). m * up e * 1 < z) (zero-mul (down e)) (ltb→lt (m * up e * 1) (0 * down e) t)))
 
-root-nonneg : (x : Float) → T (nonneg x) → T (nonneg (root x))
+pub root-nonneg : (x : Float) → T (nonneg x) → T (nonneg (root x))
 unfolding root ofBits
 root-nonneg x p =
     subst (λ (b : Bool). T (nonneg (cond b nan (cond (lt (fin false 0 (pos 0)) x && lt x inf64) (rootUnits (inUnits x)) x)))) (sym (not-below x p))
@@ -107,7 +107,7 @@ root-nonneg x p =
     go true = root-units-nonneg (inUnits x)
     go false = p
 
-nonneg-above : (x : Float) → T (nonneg x) → T (le (fin false 0 (pos 0)) x)
+pub nonneg-above : (x : Float) → T (nonneg x) → T (le (fin false 0 (pos 0)) x)
 nonneg-above nan p = absurd p
 nonneg-above (inf true) p = absurd p
 nonneg-above (inf false) p = unfold le in tt

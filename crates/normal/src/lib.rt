@@ -19,10 +19,11 @@ pub fn weigh(
     requires { ⌜ (length (now coords) ≡ 2 * n) × (n ≤ 512) ⌝ }
     ensures { λ r. ⌜ (now (w .exit), r) ≡ weightsBy (weightFrom (now (coords .entry)) east north k b) n (now (w .entry)) ⌝ }
 {
+    let reach = k.reach(b);
     let mut sum = 0.0;
     for j in 0..n {
-        let d = kernel::distance(east, north, coords[2 * j], coords[2 * j + 1]);
-        let v = k.weight(d, b);
+        let s = kernel::squares(east, north, coords[2 * j], coords[2 * j + 1]);
+        let v = k.weight_within(s, b, reach);
         w[j] = v;
         sum = sum + v;
     }

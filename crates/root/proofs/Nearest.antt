@@ -277,7 +277,7 @@ lt-cross (fin false m e) (inf s) p q h = absurd q
 lt-cross (fin false m e) (fin true n d) p q h = absurd q
 lt-cross (fin false m e) (fin false n d) p q h = ltb→lt (m * up e * down d) (n * up d * down e) h
 
-positive-unsigned : (x : Float) → T (positive x) → T (unsigned x)
+pub positive-unsigned : (x : Float) → T (positive x) → T (unsigned x)
 positive-unsigned nan p = absurd p
 positive-unsigned (inf s) p = absurd p
 positive-unsigned (fin true m e) p = absurd p
@@ -359,7 +359,7 @@ module _ (x : Float) (n a h : ℕ) (value : HasValue x false n (2 ^ 1074)) (d : 
 wrong : {A : Type 0} → false ≡ true → A
 wrong e = absurd (subst T (sym e) tt)
 
-above-unsigned : (x : Float) → lt zero64 x ≡ true → lt x inf64 ≡ true → T (unsigned x)
+pub above-unsigned : (x : Float) → lt zero64 x ≡ true → lt x inf64 ≡ true → T (unsigned x)
 unfolding lt ofBits
 above-unsigned nan p q = wrong p
 above-unsigned (inf true) p q = wrong p
