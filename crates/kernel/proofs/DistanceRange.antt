@@ -12,7 +12,7 @@ use Rattle.real.specs.Reals.{zero64}
 use Rattle.real.proofs.Values.{untrue}
 use Rattle.real.proofs.SignedOrder.{nonneg, round-nonneg, round-neg, zero-of, nat-above}
 use Rattle.root.specs.Root.{root, rootUnits, nearestRoot, inUnits, inf64}
-use Rattle.kernel.specs.Weight.{distanceOf}
+use Rattle.kernel.specs.Weight.{squaresOf, distanceOf}
 
 abbrev Number : Float → Type 0
 Number x = T (not (isNan x))
@@ -69,6 +69,31 @@ sum-nonneg (fin false m e) (inf true) p q = absurd q
 sum-nonneg (fin false m e) (inf false) p q = tt
 sum-nonneg (fin false m e) (fin true n d) p q = absurd q
 sum-nonneg (fin false m e) (fin false n d) p q = round-nonneg binary64 (m * up e * down d + n * up d * down e) (down e * down d)
+
+-- a sum of squares that is a number is that of numbers
+square-of-number : (x : Float) → Number (mul binary64 x x) → Number x
+unfolding mul isNan
+square-of-number nan p = absurd p
+square-of-number (inf s) p = tt
+square-of-number (fin s m e) p = tt
+
+terms-number : (x y : Float) → Number (add binary64 x y) → Number x × Number y
+unfolding add isNan
+terms-number nan y p = absurd p
+terms-number (inf s) nan p = absurd p
+terms-number (inf s) (inf t) p = (tt, tt)
+terms-number (inf s) (fin t n d) p = (tt, tt)
+terms-number (fin s m e) nan p = absurd p
+terms-number (fin s m e) (inf t) p = (tt, tt)
+terms-number (fin s m e) (fin t n d) p = (tt, tt)
+
+pub squares-nonneg : (ax ay bx by : Float) → Number (squaresOf ax ay bx by) → T (nonneg (squaresOf ax ay bx by))
+unfolding squaresOf
+squares-nonneg ax ay bx by p =
+    let dx = sub binary64 ax bx in
+    let dy = sub binary64 ay by in
+    let t = terms-number (mul binary64 dx dx) (mul binary64 dy dy) p in
+    sum-nonneg (mul binary64 dx dx) (mul binary64 dy dy) (square-nonneg dx (square-of-number dx (t .0))) (square-nonneg dy (square-of-number dy (t .1)))
 
 odd-nonneg : (d q k l : ℕ) → T (nonneg (odd d false q k l))
 unfolding odd

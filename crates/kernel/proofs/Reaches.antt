@@ -1,10 +1,10 @@
 -- Where a kernel weighs nothing, told by sums of squares: what `reach` and `weight_within` ask. Assumes nothing.
-use mathlib.Core.Path.{_≡_, refl, sym, ap, _∙_, subst}
-use mathlib.Core.Bool.{Bool, true, false, not, _&&_}
-use lib.Dec.{T, T-not}
-use lib.Ieee.{Float, nan, inf, fin, binary64, mul, lt, le, ofBits, fits, isNan}
+use mathlib.Core.Path.{_≡_, refl, sym, subst}
+use mathlib.Core.Bool.{Bool, true, false, not}
+use lib.Dec.{T}
+use lib.Ieee.{Float, nan, inf, fin, binary64, sub, mul, lt, le, ofBits, fits, isNan}
 use lib.Ieee.Bits.{is-true}
-use lib.Ieee.Fits.{mul-fits}
+use lib.Ieee.Fits.{add-fits, mul-fits}
 use lib.Ieee.Scale.{finite}
 use Rattle.real.specs.Reals.{zero64}
 use Rattle.real.proofs.Values.{untrue}
@@ -15,6 +15,10 @@ use Rattle.kernel.specs.declared.GwrKernel.the-variants.{Bisquare}
 use Rattle.kernel.specs.Weight.{squaresOf, distanceOf, unusable, bisquareWeight, weightOf, Beyond, Reach}
 use Rattle.kernel.proofs.DistanceRange.{square-nonneg}
 use Rattle.kernel.proofs.RootOrder.{not-both, either, root-ends, and-false, root-order}
+
+pub squares-fits : (ax ay bx by : Float) → T (fits binary64 (squaresOf ax ay bx by))
+unfolding squaresOf
+squares-fits ax ay bx by = let dx = sub binary64 ax bx in let dy = sub binary64 ay by in add-fits binary64 (mul binary64 dx dx) (mul binary64 dy dy)
 
 pub distance-is : (ax ay bx by : Float) → distanceOf ax ay bx by ≡ root (squaresOf ax ay bx by)
 unfolding distanceOf squaresOf
@@ -40,7 +44,7 @@ number-right (fin s m e) nan h = absurd h
 number-right (fin s m e) (inf t) h = tt
 number-right (fin s m e) (fin t n d) h = tt
 
-above-nonneg : (x : Float) → T (lt zero64 x) → T (nonneg x)
+pub above-nonneg : (x : Float) → T (lt zero64 x) → T (nonneg x)
 unfolding lt ofBits
 above-nonneg nan h = absurd h
 above-nonneg (inf true) h = absurd h

@@ -1,21 +1,20 @@
 -- The square root keeps the order of the numbers from 0 up, infinity included, and of two binary64 there that are at most one another there is one. Assumes nothing.
 use mathlib.Core.Path.{_≡_, refl, sym, ap, _∙_, subst}
-use mathlib.Core.Bool.{Bool, true, false, not, cond, _&&_}
-use Prim.Native.Nat.{ℕ, zero, suc, _+_, _-_, _*_, _/_, _^_, _≤_, _<_}
+use mathlib.Core.Bool.{Bool, true, false, not, _&&_}
+use Prim.Native.Nat.{ℕ, _+_, _-_, _*_, _/_, _^_, _≤_, _<_}
 use native.Mathlib.Nat.{mul-comm, mul-assoc, mul-right-comm, mul-one, zero-mul, mul-pos, mul-lt-mul-of-pos-right, mul-le-mul-left, lt-of-lt-of-le, lt-of-le-of-lt, lt-irrefl, le-of-eq, le-antisymm}
 use native.Mathlib.Omega.{arith}
-use lib.IntN.{ℤ, pos}
+use lib.IntN.{ℤ}
 use lib.Dec.{T, T-not, ltb→lt, lt→ltb}
 use lib.Ieee.{Float, nan, inf, fin, binary64, up, down, size, lt, le, ofBits, toBits, fits, isNan}
 use lib.Ieee.Bits.{ofBits-toBits, is-true, is-false}
 use lib.Ieee.Fits.{up-pos, down-pos, and-l, and-r}
 use lib.Ieee.Nearest.{div-same}
 use lib.Ieee.Positive.{num, den, den-pos, positive, positive-finite}
-use lib.Ieee.Scale.{finite}
 use Rattle.real.specs.Reals.{zero64}
 use Rattle.real.proofs.Values.{untrue}
-use Rattle.real.proofs.SignedOrder.{nonneg, le-tr, le→sle, nlt→le, lt→le, lt-not-le, lt-of-not-le}
-use Rattle.root.specs.Root.{root, inf64, rootUnits, inUnits}
+use Rattle.real.proofs.SignedOrder.{nonneg, le-tr, le→sle, nlt→le, lt-not-le, lt-of-not-le}
+use Rattle.root.specs.Root.{root, inf64}
 use Rattle.root.proofs.Nearest.{unsigned, total, NearestRoot, root-nearest, positive-unsigned, above-unsigned}
 use Rattle.kernel.proofs.DistanceRange.{nonneg-number, nonneg-above, not-below, root-nonneg}
 
