@@ -197,13 +197,14 @@ fn positive(x: f64) -> f64
 pub fn sqrt(x: f64) -> f64
     ensures { λ r. ⌜ r ≡ root x ⌝ }
 {
-    if x < 0.0 {
-        return 0.0 / 0.0;
-    }
     if x > 0.0 {
         if x < f64::from_bits(0x7FF0_0000_0000_0000) {
             return positive(x);
         }
+        return x;
+    }
+    if x < 0.0 {
+        return 0.0 / 0.0;
     }
     x
 }
