@@ -15,19 +15,18 @@ use Rattle.neighbours.specs.Sums.{tallyStep, tally, atMost, fewer, isKth
 pub record Counting (p : ℕ → Bool) (n j c : ℕ) : Type 0 where
   pub fold : Range (tallyStep p) 0 0 n j c
   pub few : c ≤ j
-  pub within : j ≤ n
 
 module _ (p : ℕ → Bool) {n : ℕ} where
   pub counting : Counting p n 0 0
-  counting = record { fold = none (omega arith); few = omega arith; within = omega arith }
+  counting = record { fold = none (omega arith); few = omega arith }
 
   pub passes : {j c : ℕ} → Counting p n j c → j < n → p j ≡ true → Counting p n (j + 1) (c + 1)
   unfolding tallyStep
-  passes {j} {c} r h t = record { fold = more (r .fold) h (sym (rw t)); few = omega (arith, r .few); within = omega arith }
+  passes {j} {c} r h t = record { fold = more (r .fold) h (sym (rw t)); few = omega (arith, r .few) }
 
   pub fails : {j c : ℕ} → Counting p n j c → j < n → p j ≡ false → Counting p n (j + 1) c
   unfolding tallyStep
-  fails {j} {c} r h t = record { fold = more (r .fold) h (sym (rw t)); few = omega (arith, r .few); within = omega arith }
+  fails {j} {c} r h t = record { fold = more (r .fold) h (sym (rw t)); few = omega (arith, r .few) }
 
   pub counted : {j c : ℕ} → Counting p n j c → n ≤ j → c ≡ tally p n
   unfolding tally

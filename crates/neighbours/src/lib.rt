@@ -1,7 +1,8 @@
 // A location's bandwidth, the k-th smallest distance to the others.
 //
-// The root keeps order, so `nearest` selects the k-th smallest sum of squares by counting, and takes one root. Where that is
-// zero, or a sum is NaN or infinite, `walked` walks over the pantries and keeps the k smallest distances in order, and the greatest.
+// The root keeps order, so `nearest` selects the k-th smallest sum of squares by counting, and takes one root. Where that sum is
+// zero, infinite or not found, or any is NaN, `walked` walks over the pantries and keeps the k smallest distances in order, and
+// the greatest.
 ghost use mathlib.Core.Path.{_≡_};
 ghost use mathlib.Core.List.{_++_};
 ghost use Prim.Native.Nat.{_+_, _-_, _*_, _≤_, _<_, min, max};
