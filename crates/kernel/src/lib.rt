@@ -41,16 +41,22 @@ impl GwrKernel {
         }
     }
 
-    // The weight of an observation at the sum of squares s, for the reach of the kernel at bandwidth b.
-    pub fn weight_within(self, s: f64, b: f64, reach: f64) -> f64
+    // The weight of an observation at the sum of squares s, for the reach of the kernel at bandwidth b. Where there is no reach
+    // y is a guess at the root.
+    pub fn weight_within(self, s: f64, y: f64, b: f64, reach: f64) -> f64
         requires { ⌜ Reach self b reach ⌝ }
         ensures { λ r. ⌜ r ≡ weightOf self (root s) b ⌝ }
     {
         if s >= reach {
             return 0.0;
         }
-        self.weight(root::sqrt(s), b)
+        self.weight(root::sqrt_near(s, chosen_guess(s, y, reach)), b)
     }
+}
+
+// The guess y, or one made here where there is a reach: what lies beyond it needs none.
+fn chosen_guess(s: f64, y: f64, reach: f64) -> f64 {
+    if reach == reach { root::guess(s) } else { y }
 }
 
 // Under an unusable bandwidth only what stands at the very place weighs.
@@ -102,6 +108,11 @@ pub fn squares(ax: f64, ay: f64, bx: f64, by: f64) -> f64
     let dx = ax - bx;
     let dy = ay - by;
     dx * dx + dy * dy
+}
+
+// A guess at the distance between two places. Nothing is claimed of it.
+pub fn guess_distance(ax: f64, ay: f64, bx: f64, by: f64) -> f64 {
+    root::guess(squares(ax, ay, bx, by))
 }
 
 // The distance between two places.

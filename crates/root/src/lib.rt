@@ -88,10 +88,15 @@ fn plain(a: u64) -> u64
     rounded(digits(a), a)
 }
 
-// A guess at the root of the number with the pattern b, but for a power of two: of s, from 1/2 to 2, which has b's digits
-// and an exponent that differs by an even number. Its contract claims nothing of it, since `settle` judges it.
-fn guess(b: u64) -> f64 {
-    let s = f64::from_bits(b % 0x20_0000_0000_0000 + 0x3FE0_0000_0000_0000);
+// The pattern of x, and 0 for NaN.
+fn pattern(x: f64) -> u64 {
+    if x == x { f64::to_bits(x) } else { 0 }
+}
+
+// A guess at the root of x, but for a power of two: at that of s, from 1/2 to 2, which has the digits of x and an exponent that
+// differs by an even number. Its contract claims nothing of it, since `settle` judges it.
+pub fn guess(x: f64) -> f64 {
+    let s = f64::from_bits(pattern(x) % 0x20_0000_0000_0000 + 0x3FE0_0000_0000_0000);
     newton(s, estimate(s))
 }
 
@@ -166,13 +171,11 @@ fn settle(a: u64, g: u64) -> u64
     plain(a)
 }
 
-// The number nearest to the root of a * 2^52, a from the pattern b: a guess, settled. A guess that is NaN has no digits, and is
-// not used.
-fn quick(a: u64, b: u64) -> u64
+// The number nearest to the root of a * 2^52: the guess y, settled. A guess that is NaN has no digits, and is not used.
+fn quick(a: u64, y: f64) -> u64
     requires { ⌜ (2 ^ 52 ≤ a) × (a < 2 ^ 54 - 1) ⌝ }
     ensures { λ q. ⌜ q ≡ nearestRoot (a * 2 ^ 52) ⌝ }
 {
-    let y = guess(b);
     if y == y {
         let g = f64::to_bits(y) % 0x10_0000_0000_0000;
         return settle(a, g + 0x10_0000_0000_0000);
@@ -180,8 +183,8 @@ fn quick(a: u64, b: u64) -> u64
     plain(a)
 }
 
-// The root of a number above zero and below infinity. The exponent's field and the root's leading digit are added up.
-fn positive(x: f64) -> f64
+// The root of a number above zero and below infinity, y a guess. The exponent's field and the root's leading digit are added up.
+fn positive(x: f64, y: f64) -> f64
     requires { ⌜ lt zero64 x ≡ true ⌝ }
     requires { ⌜ lt x inf64 ≡ true ⌝ }
     ensures { λ r. ⌜ r ≡ rootUnits (inUnits x) ⌝ }
@@ -189,17 +192,18 @@ fn positive(x: f64) -> f64
     let b = f64::to_bits(x);
     let p = split(b);
     let a = p.a;
-    let q = quick(a, b);
+    let q = quick(a, y);
     f64::from_bits((p.h + 484) * 0x10_0000_0000_0000 + q)
 }
 
-// The square root, correctly rounded. NaN for a negative number; zero of either sign, infinity and NaN for themselves.
-pub fn sqrt(x: f64) -> f64
+// The square root, whatever y is, and fast where y is `guess` of x. Roots of many numbers are faster where all are guessed first:
+// a guess waits for divisions, and settling one for nothing else.
+pub fn sqrt_near(x: f64, y: f64) -> f64
     ensures { λ r. ⌜ r ≡ root x ⌝ }
 {
     if x > 0.0 {
         if x < f64::from_bits(0x7FF0_0000_0000_0000) {
-            return positive(x);
+            return positive(x, y);
         }
         return x;
     }
@@ -207,4 +211,11 @@ pub fn sqrt(x: f64) -> f64
         return 0.0 / 0.0;
     }
     x
+}
+
+// The square root, correctly rounded. NaN for a negative number; zero of either sign, infinity and NaN for themselves.
+pub fn sqrt(x: f64) -> f64
+    ensures { λ r. ⌜ r ≡ root x ⌝ }
+{
+    sqrt_near(x, guess(x))
 }
