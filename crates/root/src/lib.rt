@@ -94,7 +94,7 @@ fn pattern(x: f64) -> u64 {
 }
 
 // A guess at the root of x, but for a power of two: at that of s, from 1/2 to 2, which has the digits of x and an exponent that
-// differs by an even number. Its contract claims nothing of it, since `settle` judges it.
+// differs by an even number; at nothing of use where x is subnormal. Its contract claims nothing of it, since `settle` judges it.
 pub fn guess(x: f64) -> f64 {
     let s = f64::from_bits(pattern(x) % 0x20_0000_0000_0000 + 0x3FE0_0000_0000_0000);
     newton(s, estimate(s))
