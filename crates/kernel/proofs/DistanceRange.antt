@@ -12,13 +12,13 @@ use Rattle.real.specs.Reals.{zero64}
 use Rattle.real.proofs.Values.{untrue}
 use Rattle.real.proofs.SignedOrder.{nonneg, round-nonneg, round-neg, zero-of, nat-above}
 use Rattle.root.specs.Root.{root, rootUnits, nearestRoot, inUnits, inf64}
-use Rattle.kernel.specs.Weight.{distanceOf}
+use Rattle.kernel.specs.Weight.{squaresOf, distanceOf}
 
 abbrev Number : Float → Type 0
 Number x = T (not (isNan x))
 
 -- ---- a difference of finite numbers is no NaN
-nonneg-number : (x : Float) → T (nonneg x) → Number x × Number (neg x)
+pub nonneg-number : (x : Float) → T (nonneg x) → Number x × Number (neg x)
 unfolding isNan neg
 nonneg-number nan p = absurd p
 nonneg-number (inf s) p = (tt, tt)
@@ -47,7 +47,7 @@ difference-number (fin s m e) (inf t) p q = absurd q
 difference-number (fin s m e) (fin t n d) p q = sum-number binary64 s (m * up e * down d) (not t) (n * up d * down e) (down e * down d)
 
 -- ---- squares, their sum and its root have a clear sign
-square-nonneg : (x : Float) → Number x → T (nonneg (mul binary64 x x))
+pub square-nonneg : (x : Float) → Number x → T (nonneg (mul binary64 x x))
 unfolding mul isNan
 square-nonneg nan p = absurd p
 square-nonneg (inf true) p = tt
@@ -70,6 +70,31 @@ sum-nonneg (fin false m e) (inf false) p q = tt
 sum-nonneg (fin false m e) (fin true n d) p q = absurd q
 sum-nonneg (fin false m e) (fin false n d) p q = round-nonneg binary64 (m * up e * down d + n * up d * down e) (down e * down d)
 
+-- a sum of squares that is a number is that of numbers
+square-of-number : (x : Float) → Number (mul binary64 x x) → Number x
+unfolding mul isNan
+square-of-number nan p = absurd p
+square-of-number (inf s) p = tt
+square-of-number (fin s m e) p = tt
+
+terms-number : (x y : Float) → Number (add binary64 x y) → Number x × Number y
+unfolding add isNan
+terms-number nan y p = absurd p
+terms-number (inf s) nan p = absurd p
+terms-number (inf s) (inf t) p = (tt, tt)
+terms-number (inf s) (fin t n d) p = (tt, tt)
+terms-number (fin s m e) nan p = absurd p
+terms-number (fin s m e) (inf t) p = (tt, tt)
+terms-number (fin s m e) (fin t n d) p = (tt, tt)
+
+pub squares-nonneg : (ax ay bx by : Float) → Number (squaresOf ax ay bx by) → T (nonneg (squaresOf ax ay bx by))
+unfolding squaresOf
+squares-nonneg ax ay bx by p =
+    let dx = sub binary64 ax bx in
+    let dy = sub binary64 ay by in
+    let t = terms-number (mul binary64 dx dx) (mul binary64 dy dy) p in
+    sum-nonneg (mul binary64 dx dx) (mul binary64 dy dy) (square-nonneg dx (square-of-number dx (t .0))) (square-nonneg dy (square-of-number dy (t .1)))
+
 odd-nonneg : (d q k l : ℕ) → T (nonneg (odd d false q k l))
 unfolding odd
 odd-nonneg d zero k l = tt
@@ -87,7 +112,7 @@ root-units-nonneg : (n : ℕ) → T (nonneg (rootUnits n))
 unfolding rootUnits
 root-units-nonneg n = let h = (size n + 1) / 2 in units-nonneg binary64 (nearestRoot (n * 2 ^ 106 / 4 ^ h)) (h + 484)
 
-not-below : (x : Float) → T (nonneg x) → lt x (fin false 0 (pos 0)) ≡ false
+pub not-below : (x : Float) → T (nonneg x) → lt x (fin false 0 (pos 0)) ≡ false
 unfolding lt
 not-below nan p = refl
 not-below (inf true) p = absurd p
@@ -97,7 +122,7 @@ not-below (fin false m e) p =
     untrue (ltb (m * up e * 1) (0 * down e))
     (λ t. not-suc-le-zero (subst (λ (z : ℕ). m * up e * 1 < z) (zero-mul (down e)) (ltb→lt (m * up e * 1) (0 * down e) t)))
 
-root-nonneg : (x : Float) → T (nonneg x) → T (nonneg (root x))
+pub root-nonneg : (x : Float) → T (nonneg x) → T (nonneg (root x))
 unfolding root ofBits
 root-nonneg x p =
     subst (λ (b : Bool). T (nonneg (cond b nan (cond (lt (fin false 0 (pos 0)) x && lt x inf64) (rootUnits (inUnits x)) x)))) (sym (not-below x p))
@@ -107,7 +132,7 @@ root-nonneg x p =
     go true = root-units-nonneg (inUnits x)
     go false = p
 
-nonneg-above : (x : Float) → T (nonneg x) → T (le (fin false 0 (pos 0)) x)
+pub nonneg-above : (x : Float) → T (nonneg x) → T (le (fin false 0 (pos 0)) x)
 nonneg-above nan p = absurd p
 nonneg-above (inf true) p = absurd p
 nonneg-above (inf false) p = unfold le in tt

@@ -1,3 +1,5 @@
 pub mod WeightRange
 pub mod DistanceRange
 pub mod Published
+pub mod RootOrder
+pub mod Reaches

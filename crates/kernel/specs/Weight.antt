@@ -4,7 +4,7 @@ use mathlib.Core.Bool.{Bool, true, false, cond, not, _||_}
 use Prim.Native.Nat.{ℕ, zero, suc}
 use lib.Dec.{T}
 use lib.IntN.{pos}
-use lib.Ieee.{Float, fin, binary64, add, sub, mul, div, neg, lt, le, eq, ofBits}
+use lib.Ieee.{Float, fin, binary64, add, sub, mul, div, neg, lt, le, eq, fits, ofBits}
 use lib.Ieee.Scale.{finite}
 use Rattle.real.specs.Reals.{zero64, one64}
 use Rattle.root.specs.Root.{root}
@@ -17,6 +17,11 @@ use Rattle.kernel.specs.declared.Weighed.the-variants.{Weight, BadDistan
 -- 0.5
 abbrev pub half64 : Float
 half64 = ofBits binary64 0x3FE0_0000_0000_0000
+
+-- dx·dx + dy·dy
+unfoldable pub squaresOf : Float → Float → Float → Float → Float
+unfolding add mul sub
+squaresOf ax ay bx by = let dx = sub binary64 ax bx in let dy = sub binary64 ay by in add binary64 (mul binary64 dx dx) (mul binary64 dy dy)
 
 -- the root of dx·dx + dy·dy
 unfoldable pub distanceOf : Float → Float → Float → Float → Float
@@ -58,6 +63,15 @@ kernelWeight Exponential d b = exponentialWeight d b
 unfoldable pub weightOf : GwrKernel → Float → Float → Float
 unfolding unusable degenerateWeight gaussianWeight bisquareWeight exponentialWeight
 weightOf k d b = cond (unusable b) (degenerateWeight d) (kernelWeight k d b)
+
+-- b is in use, and the root of no number from c on is below b
+pub record Beyond (b c : Float) : Type 0 where
+  pub usable : (s : Float) → T (le c s) → unusable b ≡ false
+  pub past : (s : Float) → T (fits binary64 s) → T (le c s) → lt (root s) b ≡ false
+
+-- the root of no number from c on weighs anything
+pub record Reach (k : GwrKernel) (b c : Float) : Type 0 where
+  pub past : (s : Float) → T (fits binary64 s) → T (le c s) → weightOf k (root s) b ≡ zero64
 
 -- the answer of the public weight call: a refusal where d is NaN or negative
 unfoldable pub weighed : GwrKernel → Float → Float → Weighed

@@ -130,7 +130,7 @@ length-inserted x l =
 
 -- ---- the last
 
-getD-any : (l : List Float) (i : ℕ) (a b : Float) → i < length l → getD l i a ≡ getD l i b
+pub getD-any : (l : List Float) (i : ℕ) (a b : Float) → i < length l → getD l i a ≡ getD l i b
 getD-any [] i a b h = absurd (not-suc-le-zero h)
 getD-any (x ∷ l) zero a b h = refl
 getD-any (x ∷ l) (suc i) a b h = getD-any l i a b (omega arith)

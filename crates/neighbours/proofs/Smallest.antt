@@ -13,9 +13,10 @@ use lib.Seq.{length-take-le, take-all, take-nil, take-take, take-append-le, take
 use lib.Ieee.{Float, nan, inf, fin, le, lt, isNan}
 use Rattle.real.specs.Fold.{turns, range}
 use Rattle.real.specs.Reals.{zero64, greater}
-use Rattle.real.proofs.SignedOrder.{le-tr, le-total, nlt→le, lt-not-le, here-or-on}
+use Rattle.real.proofs.SignedOrder.{le-tr, le-total, nlt→le, here-or-on}
 use lib.Ieee.Scale.{finite}
 use Rattle.kernel.proofs.DistanceRange.{distance-number}
+use Rattle.kernel.proofs.RootOrder.{not-both}
 use Rattle.neighbours.specs.Insert.{placeOf, inserted}
 use Rattle.neighbours.specs.Walk.{State, keepOf, meetOf, between, passOf, unmet, walkOf, eps64, foundOf, nearestOf}
 use Rattle.neighbours.specs.Smallest.{joinOf, allOf, frontOf, metOf, Ascending, kthOf, greatStep, greatestOf, kthNearest}
@@ -24,7 +25,7 @@ use Rattle.neighbours.proofs.Inserts.{place-take, length-inserted, keep
 abbrev Number : Float → Type 0
 Number x = T (not (isNan x))
 
-number-le : (x y : Float) → T (le x y) → Number x
+pub number-le : (x y : Float) → T (le x y) → Number x
 unfolding le isNan
 number-le nan y h = absurd h
 number-le (inf s) y h = tt
@@ -32,20 +33,6 @@ number-le (fin s m e) y h = tt
 
 le-itself : (x : Float) → Number x → T (le x x)
 le-itself x n = elim (le-total x x n n) [ inl h ↦ h | inr h ↦ h ]
-
-not-both : (x y : Float) → T (lt x y) → T (le y x) → ⊥
-unfolding lt le
-not-both nan y h k = h
-not-both (inf s) nan h k = h
-not-both (inf true) (inf true) h k = h
-not-both (inf true) (inf false) h k = k
-not-both (inf false) (inf t) h k = h
-not-both (inf true) (fin t n d) h k = k
-not-both (inf false) (fin t n d) h k = h
-not-both (fin s m e) nan h k = h
-not-both (fin s m e) (inf true) h k = h
-not-both (fin s m e) (inf false) h k = k
-not-both (fin s m e) (fin t n d) h k = lt-not-le (fin s m e) (fin t n d) tt tt h k
 
 false-of : (b : Bool) → (T b → ⊥) → b ≡ false
 false-of true h = absurd (h tt)
@@ -143,7 +130,7 @@ module _ (x : Float) (l : List Float) (p : ℕ) (h : p ≤ length l) where
       ∙ getD-drop p l (c - p) nan ∙ ap (λ (i : ℕ). getD l i nan) back
 
 -- ---- order is kept
-ins-is : (x : Float) (l : List Float) (p : ℕ) → placeOf x l (length l) ≡ p → inserted x l ≡ take p l ++ x ∷ drop p l
+pub ins-is : (x : Float) (l : List Float) (p : ℕ) → placeOf x l (length l) ≡ p → inserted x l ≡ take p l ++ x ∷ drop p l
 unfolding inserted
 ins-is x l p e = ap (λ (q : ℕ). take q l ++ x ∷ drop q l) e
 

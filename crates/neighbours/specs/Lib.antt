@@ -3,3 +3,4 @@ pub mod Walk
 pub mod Bandwidth
 pub mod Count
 pub mod Smallest
+pub mod Sums

@@ -1,4 +1,8 @@
-// A location's bandwidth: one walk over the pantries keeps the k smallest distances in order, and the greatest.
+// A location's bandwidth, the k-th smallest distance to the others.
+//
+// The root keeps order, so `nearest` selects the k-th smallest sum of squares by counting, and takes one root. Where that sum is
+// zero, infinite or not found, or any is NaN, `walked` walks over the pantries and keeps the k smallest distances in order, and
+// the greatest.
 ghost use mathlib.Core.Path.{_≡_};
 ghost use mathlib.Core.List.{_++_};
 ghost use Prim.Native.Nat.{_+_, _-_, _*_, _≤_, _<_, min, max};
@@ -7,6 +11,7 @@ ghost use Rattle.real.specs.Reals.{zero64};
 ghost use Rattle.neighbours.specs.Insert.{Placed, movedUp, inserted};
 ghost use Rattle.neighbours.specs.Walk.{Keeps, Walked, keepOf, meetOf, passOf, walkOf, foundOf, nearestOf};
 ghost use Rattle.neighbours.specs.Bandwidth.{Usable, reportValue, bandwidthOf};
+ghost use Rattle.neighbours.specs.Sums.{sumsOf, atMost, fewer, isKth, Selected};
 ghost use Rattle.neighbours.specs.Count.{ceilRoot, chosenCount, Resolved};
 
 // 000's bandwidth: a distance, or a number of neighbours.
@@ -160,14 +165,159 @@ fn found(w: Walk, kept: &[f64]) -> f64
     real::max(w.greatest, 2.220446049250313e-16)
 }
 
-// The k-th smallest distance from location i to the others.
-fn nearest(coords: &[f64], n: usize, i: usize, k: usize) -> f64
+// The k-th smallest distance from location i to the others, by a walk: right for every input, and slow.
+fn walked(coords: &[f64], n: usize, i: usize, k: usize) -> f64
     requires { ⌜ (length (now coords) ≡ 2 * n) × (i < n) × (n ≤ 512) × (1 ≤ k) × (k ≤ 512) ⌝ }
     ensures { λ r. ⌜ r ≡ nearestOf (now (coords .entry)) n i k ⌝ }
 {
     let mut kept = [0.0; 512];
     let w = walk_from(coords, n, i, k, &mut kept);
     found(w, &kept)
+}
+
+// The sums of squares from location i to n pantries, into s; infinity for the location itself.
+fn sums(coords: &[f64], n: usize, i: usize, s: &mut [f64; 512])
+    requires { ⌜ (length (now coords) ≡ 2 * n) × (i < n) × (n ≤ 512) ⌝ }
+    ensures { λ _. ⌜ now (s .exit) ≡ sumsOf (now (coords .entry)) n i (now (s .entry)) ⌝ }
+{
+    let east = coords[2 * i];
+    let north = coords[2 * i + 1];
+    for j in 0..n {
+        s[j] = kernel::squares(east, north, coords[2 * j], coords[2 * j + 1]);
+    }
+    s[i] = real::infinity();
+}
+
+// How many of the first n of s are at most v.
+fn at_most(s: &[f64; 512], n: usize, v: f64) -> usize
+    requires { ⌜ n ≤ 512 ⌝ }
+    ensures { λ r. ⌜ r ≡ atMost (now (s .entry)) n v ⌝ }
+{
+    let mut c = 0;
+    for j in 0..n {
+        if s[j] <= v {
+            c = c + 1;
+        }
+    }
+    c
+}
+
+// How many of the first n of s are below v.
+fn below(s: &[f64; 512], n: usize, v: f64) -> usize
+    requires { ⌜ n ≤ 512 ⌝ }
+    ensures { λ r. ⌜ r ≡ fewer (now (s .entry)) n v ⌝ }
+{
+    let mut c = 0;
+    for j in 0..n {
+        if s[j] < v {
+            c = c + 1;
+        }
+    }
+    c
+}
+
+// Whether v is the m-th smallest of the first n of s.
+fn is_kth(s: &[f64; 512], n: usize, m: usize, v: f64) -> bool
+    requires { ⌜ n ≤ 512 ⌝ }
+    ensures { λ r. ⌜ r ≡ isKth (now (s .entry)) n m v ⌝ }
+{
+    if m <= at_most(s, n, v) {
+        return below(s, n, v) < m;
+    }
+    false
+}
+
+// Where a sum is looked for: from lo on, and below hi. `narrow`, `middle` and `greatest_below` claim nothing of what they
+// answer, since `select` judges what comes of it.
+struct Bracket {
+    lo: f64,
+    hi: f64,
+}
+
+// The middle between lo and hi, or a step up from lo where there is no end yet.
+fn middle(lo: f64, hi: f64, first: f64) -> f64 {
+    if hi < real::infinity() {
+        return 0.5 * (lo + hi);
+    }
+    4.0 * lo + first
+}
+
+// The bracket halved up to 16 times, until m of the first n of s are below its end.
+fn narrow(s: &[f64; 512], n: usize, m: usize, from: f64, to: f64, first: f64) -> Bracket
+    requires { ⌜ n ≤ 512 ⌝ }
+{
+    let mut lo = from;
+    let mut hi = to;
+    for t in 0..16u64 {
+        let mid = middle(lo, hi, first);
+        let c = below(s, n, mid);
+        if c == m {
+            return Bracket { lo, hi: mid };
+        }
+        if c < m {
+            lo = mid;
+        } else {
+            hi = mid;
+        }
+    }
+    Bracket { lo, hi }
+}
+
+// x, or 0 from hi on.
+fn cut(x: f64, hi: f64) -> f64 {
+    if x < hi { x } else { 0.0 }
+}
+
+// The greatest of the first n of s that is below hi, and 0 where none is.
+fn greatest_below(s: &[f64; 512], n: usize, hi: f64) -> f64
+    requires { ⌜ n ≤ 512 ⌝ }
+{
+    let mut g = 0.0;
+    for j in 0..n {
+        g = real::max(g, cut(s[j], hi));
+    }
+    g
+}
+
+// The m-th smallest of the first n of s, if it is above zero and the brackets find it; else 0. Numbers that are equal keep a
+// bracket from having one number only, so it is judged after every 16 halvings.
+fn select(s: &[f64; 512], n: usize, m: usize) -> f64
+    requires { ⌜ n ≤ 512 ⌝ }
+    ensures { λ r. ⌜ Selected (now (s .entry)) n m r ⌝ }
+{
+    let endless = real::infinity();
+    let first = greatest_below(s, min_count(n, 16), endless);
+    let mut lo = 0.0;
+    let mut hi = endless;
+    for t in 0..8u64 {
+        let b = narrow(s, n, m, lo, hi, first);
+        let v = greatest_below(s, n, b.hi);
+        if is_kth(s, n, m, v) {
+            return v;
+        }
+        lo = b.lo;
+        hi = v;
+    }
+    0.0
+}
+
+// The k-th smallest distance from location i to the others: the root of the k-th smallest sum of squares, where no sum is NaN
+// and that one is above zero and finite.
+fn nearest(coords: &[f64], n: usize, i: usize, k: usize) -> f64
+    requires { ⌜ (length (now coords) ≡ 2 * n) × (i < n) × (n ≤ 512) × (1 ≤ k) × (k ≤ 512) ⌝ }
+    ensures { λ r. ⌜ r ≡ nearestOf (now (coords .entry)) n i k ⌝ }
+{
+    let mut s = [0.0; 512];
+    sums(coords, n, i, &mut s);
+    let v = select(&s, n, min_count(k, n - 1));
+    if at_most(&s, n, real::infinity()) == n {
+        if v > 0.0 {
+            if v < real::infinity() {
+                return root::sqrt(v);
+            }
+        }
+    }
+    walked(coords, n, i, k)
 }
 
 // 000's `local_bandwidth_distance`.

@@ -6,6 +6,18 @@ ghost use Rattle.normal.specs.Weights.{weightsBy, weightFrom};
 ghost use Rattle.normal.specs.Normal.{designRow, rowAdded, observed, normalEquations, mirroredCell, augmentedRow, augmentedOf};
 use kernel::GwrKernel;
 
+// A guess at the distance of each observation from (east, north), into y, where all of them weigh. Nothing is claimed of it.
+fn guess_all(coords: &[f64], n: usize, east: f64, north: f64, reach: f64, y: &mut [f64; 512])
+    requires { ⌜ (length (now coords) ≡ 2 * n) × (n ≤ 512) ⌝ }
+{
+    if reach == reach {
+        return;
+    }
+    for j in 0..n {
+        y[j] = kernel::guess_distance(east, north, coords[2 * j], coords[2 * j + 1]);
+    }
+}
+
 // The kernel weight of each observation, seen from the place (east, north), into w; answers their sum in order.
 pub fn weigh(
     coords: &[f64],
@@ -19,10 +31,13 @@ pub fn weigh(
     requires { ⌜ (length (now coords) ≡ 2 * n) × (n ≤ 512) ⌝ }
     ensures { λ r. ⌜ (now (w .exit), r) ≡ weightsBy (weightFrom (now (coords .entry)) east north k b) n (now (w .entry)) ⌝ }
 {
+    let reach = k.reach(b);
+    let mut near = [0.0; 512];
+    guess_all(coords, n, east, north, reach, &mut near);
     let mut sum = 0.0;
     for j in 0..n {
-        let d = kernel::distance(east, north, coords[2 * j], coords[2 * j + 1]);
-        let v = k.weight(d, b);
+        let s = kernel::squares(east, north, coords[2 * j], coords[2 * j + 1]);
+        let v = k.weight_within(s, near[j], b, reach);
         w[j] = v;
         sum = sum + v;
     }

@@ -277,7 +277,7 @@ lt-cross (fin false m e) (inf s) p q h = absurd q
 lt-cross (fin false m e) (fin true n d) p q h = absurd q
 lt-cross (fin false m e) (fin false n d) p q h = ltb→lt (m * up e * down d) (n * up d * down e) h
 
-positive-unsigned : (x : Float) → T (positive x) → T (unsigned x)
+pub positive-unsigned : (x : Float) → T (positive x) → T (unsigned x)
 positive-unsigned nan p = absurd p
 positive-unsigned (inf s) p = absurd p
 positive-unsigned (fin true m e) p = absurd p
@@ -359,7 +359,7 @@ module _ (x : Float) (n a h : ℕ) (value : HasValue x false n (2 ^ 1074)) (d : 
 wrong : {A : Type 0} → false ≡ true → A
 wrong e = absurd (subst T (sym e) tt)
 
-above-unsigned : (x : Float) → lt zero64 x ≡ true → lt x inf64 ≡ true → T (unsigned x)
+pub above-unsigned : (x : Float) → lt zero64 x ≡ true → lt x inf64 ≡ true → T (unsigned x)
 unfolding lt ofBits
 above-unsigned nan p q = wrong p
 above-unsigned (inf true) p q = wrong p
@@ -391,9 +391,22 @@ not-below (fin false m e) p =
     untrue (ltb (m * up e * 1) (0 * down e))
     (λ t. not-suc-le-zero (subst (λ (z : ℕ). m * up e * 1 < z) (zero-mul (down e)) (ltb→lt (m * up e * 1) (0 * down e) t)))
 
-root-is : (x : Float) → lt zero64 x ≡ true → lt x inf64 ≡ true → root x ≡ rootUnits (inUnits x)
+-- what is above zero is not below it
+above-not-below : (x : Float) → lt zero64 x ≡ true → lt x zero64 ≡ false
+unfolding lt ofBits
+above-not-below nan p = refl
+above-not-below (inf true) p = wrong p
+above-not-below (inf false) p = refl
+above-not-below (fin true m e) p = wrong p
+above-not-below (fin false m e) p = not-below (fin false m e) tt
+
+pub root-is : (x : Float) → lt zero64 x ≡ true → lt x inf64 ≡ true → root x ≡ rootUnits (inUnits x)
 unfolding root
-root-is x p q = rw (not-below x (above-unsigned x p q), p, q)
+root-is x p q = rw (above-not-below x p, p, q)
+
+pub root-end : (x : Float) → lt zero64 x ≡ true → lt x inf64 ≡ false → root x ≡ x
+unfolding root
+root-end x p q = rw (above-not-below x p, p, q)
 
 -- squareRoot of a positive finite number
 pub root-nearest : (x : Float) → T (fits binary64 x) → T (lt zero64 x) → T (lt x inf64) → NearestRoot x (root x)

@@ -1,7 +1,7 @@
 -- Powers of two in the parts of a number: its length, and half of it.
 use mathlib.Core.Path.{_≡_, refl, sym, ap, _∙_, subst}
 use Prim.Native.Nat.{ℕ, zero, suc, _+_, _-_, _*_, _/_, _%_, _^_, _≤_, _<_}
-use native.Mathlib.Nat.{mul-assoc, mul-comm, pow-suc, pow-zero, lt-irrefl, lt-of-lt-of-le, le-trans, lt-of-not-le, add-suc, suc-add, le-antisymm, le-of-eq, mul-le-mul-right, mod-eq-of-lt}
+use native.Mathlib.Nat.{mul-assoc, mul-comm, mul-one, pow-suc, pow-zero, lt-irrefl, lt-of-lt-of-le, le-trans, lt-of-not-le, add-suc, suc-add, le-antisymm, le-of-eq, mul-le-mul-right, mod-eq-of-lt}
 use native.Mathlib.Decide.{decLe}
 use native.Mathlib.Omega.{arith}
 use lib.Pow.{pow-add, pow-mono, shl-lt}
@@ -44,6 +44,20 @@ when-odd sig len o a b = record { half = refl; value = odd-length sig len o; low
 
 pub when-even : (sig len : ℕ) → (len % 2 ≡ 1 → ⊥) → 2 ^ 52 ≤ sig → sig < 2 ^ 53 → Halved sig len (sig * 2) ((len + 1) / 2)
 when-even sig len o a b = record { half = refl; value = even-length sig len o; low = omega arith; high = omega arith }
+
+-- one or two times the digits, by the length
+pub by-length : (sig len : ℕ) → 2 ^ 52 ≤ sig → sig < 2 ^ 53 → Halved sig len (sig * (2 - len % 2)) ((len + 1) / 2)
+by-length sig len a b = go (decLe 1 (len % 2))
+  where
+    go : Dec (1 ≤ len % 2) → Halved sig len (sig * (2 - len % 2)) ((len + 1) / 2)
+    go (yes y) =
+        let o : len % 2 ≡ 1 = omega arith in
+        let e : sig * (2 - len % 2) ≡ sig = ap (λ (k : ℕ). sig * (2 - k)) o ∙ mul-one sig in
+        rw e (when-odd sig len o a b)
+    go (no f) =
+        let o : len % 2 ≡ 0 = omega arith in
+        let e : sig * (2 - len % 2) ≡ sig * 2 = ap (λ (k : ℕ). sig * (2 - k)) o in
+        rw e (when-even sig len (λ w. f (omega arith)) a b)
 
 -- what is split, by its length and its first 53 digits
 pub parted : {sig len a h : ℕ} (n : ℕ) → size n ≡ len → len < 2099 → n * 2 ^ 106 ≡ sig * 2 ^ (len + 53) → Halved sig len a h → Parted n a h

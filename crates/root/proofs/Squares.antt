@@ -6,10 +6,11 @@ use native.Mathlib.Nat.{mul-add, add-mul, mul-comm, mul-assoc, add-assoc, add-co
 use native.Mathlib.Numerals.{add-one}
 use native.Mathlib.Decide.{decLe}
 use native.Mathlib.Omega.{arith}
+use borrow.Author.Tests.{lt-ltb, le-ltb}
 use lib.Dec.{T, leb, leb→le, nleb→lt}
 use lib.Pow.{pow-mono, pow-add, pow-pos}
 use lib.Ieee.{nearest}
-use Rattle.root.specs.Root.{Rooted, Parted, digit, isqrt, nearestRoot}
+use Rattle.root.specs.Root.{Rooted, Parted, digit, isqrt, nearestRoot, oneIfBelow}
 
 -- ---- the digit loop: after i turns q has i digits, and with what is left it makes the first i pairs of digits of a
 pub record Digits (a q rem c i : ℕ) : Type 0 where
@@ -215,6 +216,47 @@ module _ (a g r : ℕ) (high : a < 2 ^ 54 - 1) (e : r + g * g ≡ a * 2 ^ 52 + 2
 
       s : g * g ≡ (g - 1) * (g - 1) + 2 * (g - 1) + 1
       s = ap (λ (x : ℕ). x * x) (sym k) ∙ sq-next (g - 1)
+
+pub is-one : (m n : ℕ) → m < n → oneIfBelow m n ≡ 1
+unfolding oneIfBelow
+is-one m n h = rw (lt-ltb m n h)
+
+pub is-none : (m n : ℕ) → n ≤ m → oneIfBelow m n ≡ 0
+unfolding oneIfBelow
+is-none m n h = rw (le-ltb m n h)
+
+pub one-at-most : (m n : ℕ) {u : ℕ} → u ≡ oneIfBelow m n → u ≤ 1
+one-at-most m n {u} e = go (decLe n m)
+  where
+    go : Dec (n ≤ m) → u ≤ 1
+    go (yes h) = omega (arith, is-none m n h)
+    go (no f) = omega (arith, is-one m n (lt-of-not-le f))
+
+-- which of the three it is, by the two tests at once
+pub chosen :
+    (a g r u d : ℕ) → a < 2 ^ 54 - 1 → 0 < g → r + g * g ≡ a * 2 ^ 52 + 2 ^ 56
+    → u ≡ oneIfBelow (2 ^ 56 + g) r → d ≡ oneIfBelow (r + g) (2 ^ 56 + 1)
+    → 2 ^ 56 + 2 < r + 3 * g → r ≤ 2 ^ 56 + 2 + 3 * g → g + u - d ≡ nearestRoot (a * 2 ^ 52)
+chosen a g r u d high p e up down low top = go (decLe r (2 ^ 56 + g)) (decLe (r + g) (2 ^ 56))
+  where
+    go : Dec (r ≤ 2 ^ 56 + g) → Dec (r + g ≤ 2 ^ 56) → g + u - d ≡ nearestRoot (a * 2 ^ 52)
+    go (yes h) (yes k) =
+        let u0 : u ≡ 0 = up ∙ is-none (2 ^ 56 + g) r h in
+        let d1 : d ≡ 1 = down ∙ is-one (r + g) (2 ^ 56 + 1) (omega arith) in
+        let s : g + u - d ≡ g - 1 = omega arith in
+        s ∙ settled-below a g r high e p k low
+    go (yes h) (no k) =
+        let l = lt-of-not-le k in
+        let u0 : u ≡ 0 = up ∙ is-none (2 ^ 56 + g) r h in
+        let d0 : d ≡ 0 = down ∙ is-none (r + g) (2 ^ 56 + 1) (omega arith) in
+        let s : g + u - d ≡ g = omega arith in
+        s ∙ settled a g r high e h l
+    go (no h) k =
+        let l = lt-of-not-le h in
+        let u1 : u ≡ 1 = up ∙ is-one (2 ^ 56 + g) r l in
+        let d0 : d ≡ 0 = down ∙ is-none (r + g) (2 ^ 56 + 1) (omega arith) in
+        let s : g + u - d ≡ g + 1 = omega arith in
+        s ∙ settled-above a g r high e l top
 
 pub held : {a h q : ℕ} {n : ℕ} → Parted n a h → q ≡ nearestRoot (a * 2 ^ 52) → (2 ^ 52 ≤ q) × (q < 2 ^ 53)
 held {a} p e = rw e (nearest-bounds a (p .low) (p .high))

@@ -2,7 +2,7 @@
 use Prim.Native.Nat.{ℕ, zero, suc, _+_, _*_, _/_, _^_, _%_, _-_, _≤_, _<_, compare}
 use mathlib.Core.Path.{_≡_, refl}
 use mathlib.Core.Bool.{false, cond, _&&_}
-use lib.Dec.{leb, eqb}
+use lib.Dec.{leb, ltb, eqb}
 use lib.Ieee.{Float, nan, inf, fin, binary64, up, down, lt, size, nearest, units, ofBits, toBits}
 
 -- 2 * r + 1 where its square is at most n, else 2 * r: one binary digit more of the root of n
@@ -72,6 +72,10 @@ pub record Halved (sig len a h : ℕ) : Type 0 where
 -- the units of the bit pattern of a positive finite binary64
 unfoldable pub unitsOfBits : ℕ → ℕ
 unitsOfBits b = cond (eqb (b / 2 ^ 52) 0) b ((2 ^ 52 + b % 2 ^ 52) * 2 ^ (b / 2 ^ 52 - 1))
+
+-- 1 where m is below n, else 0
+unfoldable pub oneIfBelow : ℕ → ℕ → ℕ
+oneIfBelow m n = cond (ltb m n) 1 0
 
 -- ---- examples, by their bits
 

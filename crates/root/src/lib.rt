@@ -6,7 +6,7 @@ ghost use mathlib.Core.Path.{_≡_};
 ghost use mathlib.Core.Bool.{true};
 ghost use Prim.Native.Nat.{_+_, _*_, _^_, _-_, _≤_, _<_, compare};
 ghost use lib.Ieee.{lt, nearest};
-ghost use Rattle.root.specs.Root.{root, rootUnits, inUnits, zero64, inf64, nearestRoot, Rooted, Parted, Halved, unitsOfBits};
+ghost use Rattle.root.specs.Root.{root, rootUnits, inUnits, zero64, inf64, nearestRoot, Rooted, Parted, Halved, unitsOfBits, oneIfBelow};
 
 // The whole root of a number and what is left: q * q + rem is the number.
 struct Root {
@@ -43,16 +43,15 @@ struct Parts {
     h: u64,
 }
 
-// The parts of a number of `size` digits, the first 53 of which are `sig`: an even length leaves one digit more in a.
+// The parts of a number of `size` digits, the first 53 of which are `sig`: an even length leaves one digit more in a. Lengths
+// are even and odd by chance, so there is no branch.
 fn halved(sig: u64, size: u64) -> Parts
     requires { ⌜ (size < 2099) × (2 ^ 52 ≤ sig) × (sig < 2 ^ 53) ⌝ }
     ensures { λ r. ⌜ Halved sig size (r .a) (r .h) ⌝ }
 {
-    let h = (size + 1) / 2;
-    if size % 2 == 1 {
-        Parts { a: sig, h }
-    } else {
-        Parts { a: sig * 2, h }
+    Parts {
+        a: sig * (2 - size % 2),
+        h: (size + 1) / 2,
     }
 }
 
@@ -89,32 +88,31 @@ fn plain(a: u64) -> u64
     rounded(digits(a), a)
 }
 
-// A guess at the root of a / 2^52, in floats: a polynomial within one part in 14,000, and two steps of Newton's
-// iteration. Its contract claims nothing of it, since `settle` judges it.
-fn guess(a: u64) -> f64
-    requires { ⌜ (2 ^ 52 ≤ a) × (a < 2 ^ 54) ⌝ }
-{
-    if a < 0x20_0000_0000_0000 {
-        let s = f64::from_bits(a + 0x3FE0_0000_0000_0000);
-        newton(s, estimate(s))
-    } else {
-        let b = a / 2;
-        newton(
-            f64::from_bits(b + 0x3FF0_0000_0000_0000),
-            1.4142135623730951 * estimate(f64::from_bits(b + 0x3FE0_0000_0000_0000)),
-        )
-    }
+// The pattern of x, and 0 for NaN.
+fn pattern(x: f64) -> u64 {
+    if x == x { f64::to_bits(x) } else { 0 }
 }
 
-// A polynomial near the root of s, for s from 1/2 to 1.
+// A guess at the root of x, but for a power of two: at that of s, from 1/2 to 2, which has the digits of x and an exponent that
+// differs by an even number; at nothing of use where x is subnormal. Its contract claims nothing of it, since `settle` judges it.
+pub fn guess(x: f64) -> f64 {
+    let s = f64::from_bits(pattern(x) % 0x20_0000_0000_0000 + 0x3FE0_0000_0000_0000);
+    newton(s, estimate(s))
+}
+
+// A polynomial within one part in 15,000 of the root of s, for s from 1/2 to 2.
 fn estimate(s: f64) -> f64 {
-    0.369956461212 + s * (0.787923078932 + s * (0.0249374023210 * s - 0.182747527293))
+    let w = s * s;
+    let low = 0.24291946171660353 + 1.231231685443024 * s;
+    let middle = 0.43704963265014685 * s - 0.7920037540880022;
+    let high = 0.018005498943979206 * s - 0.1372273612586071;
+    low + w * (middle + w * high)
 }
 
-// Two steps of Newton's iteration for the root of s, from y.
+// Two steps of Newton's iteration for the root of s, from y: z is twice the first.
 fn newton(s: f64, y: f64) -> f64 {
-    let z = 0.5 * (y + s / y);
-    0.5 * (z + s / z)
+    let z = y + s / y;
+    0.25 * z + s / z
 }
 
 // a * 2^52 - g * g + 2^56, where g is near enough to the root that every step fits in 64 bits; else 0.
@@ -149,36 +147,35 @@ fn excess(a: u64, g: u64) -> u64
     rest - square
 }
 
+// 1 where m is below n, else 0.
+fn one_if_below(m: u64, n: u64) -> u64
+    ensures { λ r. ⌜ r ≡ oneIfBelow m n ⌝ }
+{
+    if m < n { 1 } else { 0 }
+}
+
 // The number nearest to the root of a * 2^52: the guess g or a neighbour of it, if its square says so, and else digit by digit.
+// One guess in four is off by one, so which of the three it is takes no branch.
 fn settle(a: u64, g: u64) -> u64
     requires { ⌜ (2 ^ 52 ≤ a) × (a < 2 ^ 54 - 1) × (2 ^ 52 ≤ g) × (g < 2 ^ 53) ⌝ }
     ensures { λ q. ⌜ q ≡ nearestRoot (a * 2 ^ 52) ⌝ }
 {
     let r = excess(a, g);
-    if r == 0 {
-        return plain(a);
-    }
-    if r <= 0x100_0000_0000_0000 + g {
-        if 0x100_0000_0000_0000 < r + g {
-            return g;
+    let up = one_if_below(0x100_0000_0000_0000 + g, r);
+    let down = one_if_below(r + g, 0x100_0000_0000_0001);
+    if 0x100_0000_0000_0002 < r + 3 * g {
+        if r <= 0x100_0000_0000_0002 + 3 * g {
+            return g + up - down;
         }
-        if 0x100_0000_0000_0002 < r + 3 * g {
-            return g - 1;
-        }
-        return plain(a);
-    }
-    if r <= 0x100_0000_0000_0002 + 3 * g {
-        return g + 1;
     }
     plain(a)
 }
 
-// The number nearest to the root of a * 2^52: a guess, settled. A guess that is NaN has no digits, and is not used.
-fn quick(a: u64) -> u64
+// The number nearest to the root of a * 2^52: the guess y, settled. A guess that is NaN has no digits, and is not used.
+fn quick(a: u64, y: f64) -> u64
     requires { ⌜ (2 ^ 52 ≤ a) × (a < 2 ^ 54 - 1) ⌝ }
     ensures { λ q. ⌜ q ≡ nearestRoot (a * 2 ^ 52) ⌝ }
 {
-    let y = guess(a);
     if y == y {
         let g = f64::to_bits(y) % 0x10_0000_0000_0000;
         return settle(a, g + 0x10_0000_0000_0000);
@@ -186,8 +183,8 @@ fn quick(a: u64) -> u64
     plain(a)
 }
 
-// The root of a number above zero and below infinity. The exponent's field and the root's leading digit are added up.
-fn positive(x: f64) -> f64
+// The root of a number above zero and below infinity, y a guess. The exponent's field and the root's leading digit are added up.
+fn positive(x: f64, y: f64) -> f64
     requires { ⌜ lt zero64 x ≡ true ⌝ }
     requires { ⌜ lt x inf64 ≡ true ⌝ }
     ensures { λ r. ⌜ r ≡ rootUnits (inUnits x) ⌝ }
@@ -195,21 +192,30 @@ fn positive(x: f64) -> f64
     let b = f64::to_bits(x);
     let p = split(b);
     let a = p.a;
-    let q = quick(a);
+    let q = quick(a, y);
     f64::from_bits((p.h + 484) * 0x10_0000_0000_0000 + q)
+}
+
+// The square root, whatever y is, and fast where y is `guess` of x. Roots of many numbers are faster where all are guessed first:
+// a guess waits for divisions, and settling one for nothing else.
+pub fn sqrt_near(x: f64, y: f64) -> f64
+    ensures { λ r. ⌜ r ≡ root x ⌝ }
+{
+    if x > 0.0 {
+        if x < f64::from_bits(0x7FF0_0000_0000_0000) {
+            return positive(x, y);
+        }
+        return x;
+    }
+    if x < 0.0 {
+        return 0.0 / 0.0;
+    }
+    x
 }
 
 // The square root, correctly rounded. NaN for a negative number; zero of either sign, infinity and NaN for themselves.
 pub fn sqrt(x: f64) -> f64
     ensures { λ r. ⌜ r ≡ root x ⌝ }
 {
-    if x < 0.0 {
-        return 0.0 / 0.0;
-    }
-    if x > 0.0 {
-        if x < f64::from_bits(0x7FF0_0000_0000_0000) {
-            return positive(x);
-        }
-    }
-    x
+    sqrt_near(x, guess(x))
 }

@@ -1,13 +1,15 @@
 -- `kernel::distance` meets its contract.
 use borrow.Author.Needs.{needs}
-use Rattle.kernel.specs.Weight.{distanceOf}
+use mathlib.Core.Path.{sym, ap, _∙_}
+use Rattle.root.specs.Root.{root}
+use Rattle.kernel.proofs.Reaches.{distance-is}
 use Rattle.kernel.proofs.distance.Statement.{statement}
 use Rattle.kernel.proofs.distance.Tie as tie
 
 pub distance-spec : {M : Type 1} → statement M
-unfolding distanceOf
 distance-spec =
     tie.close
     (tie.spec
     (λ c κs. search needs)
-    (λ c. c .sqrt .ensures))
+    (λ c κs. search needs)
+    (λ c. c .sqrt .ensures ∙ ap root (c .before .squares .ensures) ∙ sym (distance-is _ _ _ _)))
