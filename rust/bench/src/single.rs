@@ -49,6 +49,7 @@ pub fn weights(repeats: usize) {
 mod linked {
     unsafe extern "C" {
         pub fn zescolumba_roots(values: *mut f64, len: usize);
+        pub fn zescolumba_roots_in_passes(values: *mut f64, len: usize);
         pub fn zescolumba_exponentials(values: *mut f64, len: usize);
     }
 }
@@ -56,6 +57,24 @@ mod linked {
 fn roots(values: &mut [f64]) {
     // SAFETY: the pointer comes with the length of its slice, which is lent exclusively, and the call is proved to stay in it.
     unsafe { linked::zescolumba_roots(values.as_mut_ptr(), values.len()) }
+}
+
+/// Roots of 512 numbers at a time, as a local solve takes them.
+fn roots_in_passes(values: &mut [f64]) {
+    for part in values.chunks_mut(512) {
+        // SAFETY: as for `roots`.
+        unsafe { linked::zescolumba_roots_in_passes(part.as_mut_ptr(), part.len()) }
+    }
+}
+
+/// The processor's root, one at a time: left to itself, the compiler has it take two.
+fn scalar_root(x: f64) -> f64 {
+    let mut root = x;
+    // SAFETY: the instruction reads and writes one register. With another as its target it would wait for what that held.
+    unsafe {
+        std::arch::asm!("sqrtsd {0}, {0}", inout(xmm_reg) root, options(pure, nomem, nostack));
+    }
+    root
 }
 
 fn exponentials(values: &mut [f64]) {
@@ -107,8 +126,20 @@ pub fn elementary(repeats: usize) {
         ours.iter().zip(&exponents).all(same),
         "the same exponentials"
     );
-    let name = "square root, against the processor's";
+    let name = "square root, against the processor's two at a time";
     line(repeats, name, &squares, &roots, &each(f64::sqrt));
+    let name = "square root, against the processor's one at a time";
+    line(repeats, name, &squares, &roots, &each(scalar_root));
+    let name = "square roots in passes, against the processor's two at a time";
+    line(repeats, name, &squares, &roots_in_passes, &each(f64::sqrt));
+    let name = "square roots in passes, against the processor's one at a time";
+    line(
+        repeats,
+        name,
+        &squares,
+        &roots_in_passes,
+        &each(scalar_root),
+    );
     let name = "exponential, against the platform's";
     line(repeats, name, &exponents, &exponentials, &each(f64::exp));
     let name = "exponential, against 01's steps in Rust";
@@ -152,8 +183,11 @@ mod tests {
         let values = patterns();
         let mut ours = values.clone();
         roots(&mut ours);
-        for (ours, v) in ours.iter().zip(values) {
+        let mut passes = values.clone();
+        roots_in_passes(&mut passes);
+        for ((ours, passes), v) in ours.iter().zip(passes).zip(values) {
             assert!(same(*ours, v.sqrt()), "root of {v:e}");
+            assert!(same(passes, v.sqrt()), "root of {v:e} in passes");
         }
     }
 
