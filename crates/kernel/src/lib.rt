@@ -1,6 +1,6 @@
 // Distance and kernel weight.
 ghost use mathlib.Core.Path.{_≡_};
-ghost use Rattle.root.specs.Root.{root};
+ghost use Rattle.root.specs.Root.{root, guessOf};
 ghost use Rattle.kernel.specs.Weight.{squaresOf, distanceOf, degenerateWeight, gaussianWeight, bisquareWeight, weightOf, Beyond, Reach, weighed};
 
 // 000's three spatial kernels.
@@ -110,8 +110,10 @@ pub fn squares(ax: f64, ay: f64, bx: f64, by: f64) -> f64
     dx * dx + dy * dy
 }
 
-// A guess at the distance between two places. Nothing is claimed of it.
-pub fn guess_distance(ax: f64, ay: f64, bx: f64, by: f64) -> f64 {
+// A guess at the distance between two places. How near it comes is not claimed.
+pub fn guess_distance(ax: f64, ay: f64, bx: f64, by: f64) -> f64
+    ensures { λ r. ⌜ r ≡ guessOf (squaresOf ax ay bx by) ⌝ }
+{
     root::guess(squares(ax, ay, bx, by))
 }
 

@@ -6,7 +6,7 @@ ghost use mathlib.Core.Path.{_≡_};
 ghost use mathlib.Core.Bool.{true};
 ghost use Prim.Native.Nat.{_+_, _*_, _^_, _-_, _≤_, _<_, compare};
 ghost use lib.Ieee.{lt, nearest};
-ghost use Rattle.root.specs.Root.{root, rootUnits, inUnits, zero64, inf64, nearestRoot, Rooted, Parted, Halved, unitsOfBits, oneIfBelow};
+ghost use Rattle.root.specs.Root.{root, rootUnits, inUnits, zero64, inf64, nearestRoot, Rooted, Parted, Halved, unitsOfBits, oneIfBelow, patternOf, estimateOf, newtonOf, guessOf};
 
 // The whole root of a number and what is left: q * q + rem is the number.
 struct Root {
@@ -89,19 +89,25 @@ fn plain(a: u64) -> u64
 }
 
 // The pattern of x, and 0 for NaN.
-fn pattern(x: f64) -> u64 {
+fn pattern(x: f64) -> u64
+    ensures { λ r. ⌜ r ≡ patternOf x ⌝ }
+{
     if x == x { f64::to_bits(x) } else { 0 }
 }
 
 // A guess at the root of x, but for a power of two: at that of s, from 1/2 to 2, which has the digits of x and an exponent that
-// differs by an even number; at nothing of use where x is subnormal. Its contract claims nothing of it, since `settle` judges it.
-pub fn guess(x: f64) -> f64 {
+// differs by an even number; at nothing of use where x is subnormal. How near it comes is not claimed: `settle` judges it.
+pub fn guess(x: f64) -> f64
+    ensures { λ r. ⌜ r ≡ guessOf x ⌝ }
+{
     let s = f64::from_bits(pattern(x) % 0x20_0000_0000_0000 + 0x3FE0_0000_0000_0000);
     newton(s, estimate(s))
 }
 
 // A polynomial within one part in 15,000 of the root of s, for s from 1/2 to 2.
-fn estimate(s: f64) -> f64 {
+fn estimate(s: f64) -> f64
+    ensures { λ r. ⌜ r ≡ estimateOf s ⌝ }
+{
     let w = s * s;
     let low = 0.24291946171660353 + 1.231231685443024 * s;
     let middle = 0.43704963265014685 * s - 0.7920037540880022;
@@ -110,7 +116,9 @@ fn estimate(s: f64) -> f64 {
 }
 
 // Two steps of Newton's iteration for the root of s, from y: z is twice the first.
-fn newton(s: f64, y: f64) -> f64 {
+fn newton(s: f64, y: f64) -> f64
+    ensures { λ r. ⌜ r ≡ newtonOf s y ⌝ }
+{
     let z = y + s / y;
     0.25 * z + s / z
 }

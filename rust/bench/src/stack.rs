@@ -44,18 +44,7 @@ extern "C" fn nothing(_: *mut c_void) -> *mut c_void {
 extern "C" fn fit(argument: *mut c_void) -> *mut c_void {
     // SAFETY: `fit_bytes` passes a call that nothing else uses until the thread has ended.
     let call = unsafe { &mut *argument.cast::<Call>() };
-    let job = call.job;
-    gateway::bytes::fit(
-        &job.coords,
-        &job.x,
-        &job.y,
-        job.p,
-        job.kernel,
-        job.kind,
-        job.bandwidth,
-        &mut call.out,
-        &mut call.summary,
-    );
+    compare::call(call.job, &mut call.out, &mut call.summary);
     null_mut()
 }
 
