@@ -10,6 +10,8 @@ rt fmt --check >/dev/null 2>&1
 note $? "rt fmt --check"
 bash scripts/reading.sh
 note $? "the table of definitions in README (scripts/reading.sh fix)"
+bash scripts/theorems.sh
+note $? "the tables of theorems in README"
 
 # run COMMAND..: shows what it writes, and counts what its last line says.
 run() {

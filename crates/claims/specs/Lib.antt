@@ -4,5 +4,3 @@ pub mod Conditions
 pub mod DemandOne
 pub mod DemandTwo
 pub mod DemandThree
-pub mod Examples
-pub mod Played
