@@ -13,7 +13,7 @@ use lib.Seq.{drop-at, drop-drop}
 use lib.Ieee.{Float, le, isNan, toBits, ofBits}
 use Rattle.real.specs.Reals.{zero64}
 use Rattle.refusal.specs.declared.Refusal.{Refusal}
-use Rattle.refusal.specs.declared.Refusal.the-variants.{NoCoordinates, OddCoordinates, TooManyObservations, TooManyPredictors, PredictorLength, ResponseLength, TooFewObservations, CoordinateNotFinite, OutputTooShort, Singular, InverseNotFinite, CoefficientNotFinite, DeviationNotFinite, UnknownNumber}
+use Rattle.refusal.specs.declared.Refusal.the-variants.{NoCoordinates, OddCoordinates, TooManyObservations, TooManyPredictors, PredictorLength, ResponseLength, TooFewObservations, CoordinateNotFinite, OutputTooShort, Singular, InverseNotFinite, CoefficientNotFinite, UnknownNumber}
 use Rattle.refusal.specs.Numbers.{refusalNumber}
 use Rattle.kernel.specs.declared.GwrKernel.{GwrKernel}
 use Rattle.kernel.specs.declared.GwrKernel.the-variants.{Gaussian, Bisquare, Exponential}

@@ -33,9 +33,9 @@ use Rattle.gwr.specs.declared.Sweep.{Sweep}
 use Rattle.gwr.specs.declared.Fit.{Fit}
 use Rattle.gwr.specs.Sweep.{newSweep, afterOf, visitOf, endingOf, writeOf, visitFinal, sweepFinal}
 use Rattle.gwr.specs.Fit.{answerOf, finalOf}
-use Rattle.claims.specs.DemandOne.{plusSquare, plusLeverage, sumOver, decidedBy, Written, FitAnswered}
+use Rattle.claims.specs.DemandOne.{plusSquare, plusLeverage, decidedBy, Written, FitAnswered}
 use Rattle.claims.proofs.Cases.{either}
-use Rattle.claims.proofs.Untouched.{next-row, farther, put-behind}
+use Rattle.claims.proofs.Untouched.{next-row, farther, put-behind, put-front}
 
 -- ---- a part of a list
 
@@ -109,15 +109,13 @@ module _ (d : Data) (k : GwrKernel) (b : GwrBandwidth) (out : List Float) (room 
       rw (e, drop-at (take at w) (row ++ drop (at + (d .p + 4)) w) at (length-take-le at w (omega (arith, fits, room, long)))) (take-at row (drop (at + (d .p + 4)) w) (d .p + 4) wide)
 
   other-row : (q i : ℕ) (w : List Float) (v : Values) → q < i → i < d .n → length w ≡ length out → rowIn (put i w v) q ≡ rowIn w q
-  unfolding putRow
   other-row q i w v h l long =
-      let at = i * (d .p + 4) in
+      let beta = solveLocation d k b i .beta in
       let e : d .p + 1 + 3 ≡ d .p + 4 = omega arith in
-      let fits : at + (d .p + 4) ≤ d .n * (d .p + 4) = row-within i (d .n) (d .p + 4) l in
-      let before : q * (d .p + 4) + (d .p + 4) ≤ at = row-within q i (d .p + 4) h in
-      let same : length (put i w v) ≡ length w = put-long w (d .n) (d .p + 1) i (solveLocation d k b i .beta) v (rw e (omega (arith, room, long))) l (omega (arith, narrow)) (beta-eight d k b i) in
-      let front : take at (put i w v) ≡ take at w = rw e (take-at (take at w) (rowOf (solveLocation d k b i .beta) (d .p + 1) v ++ drop (at + (d .p + 4)) w) at (length-take-le at w (omega (arith, fits, room, long)))) in
-      part-front (put i w v) w (q * (d .p + 4)) (d .p + 4) at before (omega (arith, same, fits, room, long)) (omega (arith, fits, room, long)) front
+      let fits : i * (d .p + 4) ≤ length w = omega (arith, row-within i (d .n) (d .p + 4) l, room, long) in
+      let same : length (put i w v) ≡ length w = put-long w (d .n) (d .p + 1) i beta v (rw e (omega (arith, room, long))) l (omega (arith, narrow)) (beta-eight d k b i) in
+      part-front (put i w v) w (q * (d .p + 4)) (d .p + 4) (i * (d .p + 4)) (row-within q i (d .p + 4) h) (omega (arith, same, fits)) fits
+      (rw e at (put-front w (d .p + 1) i beta v (rw e fits)))
 
   one-more : (i : ℕ) (w : List Float) (v : Values) → i < d .n → length w ≡ length out → solve i ≡ outcome.Found v → Before i w → Before (i + 1) (put i w v)
   one-more i w v l long e h q z =
