@@ -1,4 +1,4 @@
--- The byte calls: which inputs are refused, and which bytes are left alone.
+-- The byte calls: which inputs are refused, and every byte that a call leaves.
 use mathlib.Core.Path.{_≡_, refl, sym, ap, subst, subst⁻¹, _∙_}
 use mathlib.Core.Bool.{Bool, true, false, cond, not}
 use mathlib.Core.List.{List, [], _∷_, _++_}
