@@ -1,4 +1,5 @@
 pub mod Whole
+pub mod Written
 pub mod Turns
 pub mod Conditions
 pub mod DemandOne
