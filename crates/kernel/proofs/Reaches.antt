@@ -1,5 +1,5 @@
 -- Where a kernel weighs nothing, told by sums of squares: what `reach` and `weight_within` ask. Assumes nothing.
-use mathlib.Core.Path.{_≡_, refl, sym, subst}
+use mathlib.Core.Path.{_≡_, refl, sym, subst, subst⁻¹}
 use mathlib.Core.Bool.{Bool, true, false, not}
 use lib.Dec.{T}
 use lib.Ieee.{Float, nan, inf, fin, binary64, sub, mul, lt, le, ofBits, fits, isNan}
@@ -95,7 +95,10 @@ bisquare-reach b =
     (λ h. rw (e, is-false (le b (root (mul binary64 b b))) h) (nowhere Bisquare b)))
 
 -- ---- every kernel's
-pub reach-of : (k : GwrKernel) (b : Float) → Reach k b (reachOf k b)
+reach-of : (k : GwrKernel) (b : Float) → Reach k b (reachOf k b)
 reach-of Gaussian b = nowhere Gaussian b
 reach-of Bisquare b = bisquare-reach b
 reach-of Exponential b = nowhere Exponential b
+
+pub reaches : {k : GwrKernel} {b r : Float} → r ≡ reachOf k b → Reach k b r
+reaches {k} {b} e = subst⁻¹ (Reach k b) e (reach-of k b)
