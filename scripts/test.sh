@@ -1,5 +1,5 @@
 #!/usr/bin/env bash
-# All tests: layout of the files, the table of definitions in README, proofs with must-fail edits and programs (rt ci), stored runs of gwrprint, and the Rust side
+# All tests: layout of the files, the table of definitions in README and that of functions without an ensures in docs/DECISIONS.md, proofs with must-fail edits and programs (rt ci), stored runs of gwrprint, and the Rust side
 # (scripts/rust.sh: its tests, and the comparison with 000).
 # The last line is 'N passed, M failed', and the exit status says whether M is 0.
 set -u
@@ -10,6 +10,8 @@ rt fmt --check >/dev/null 2>&1
 note $? "rt fmt --check"
 bash scripts/reading.sh
 note $? "the table of definitions in README (scripts/reading.sh fix)"
+bash scripts/contracts.sh
+note $? "the functions without an ensures in docs/DECISIONS.md (scripts/contracts.sh list)"
 
 # run COMMAND..: shows what it writes, and counts what its last line says.
 run() {
