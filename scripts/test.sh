@@ -1,6 +1,6 @@
 #!/usr/bin/env bash
-# All tests: layout of the files, the table of definitions in README and that of functions without an ensures in docs/DECISIONS.md, proofs with must-fail edits and programs (rt ci), stored runs of gwrprint, and the Rust side
-# (scripts/rust.sh: its tests, and the comparison with 000).
+# All tests: layout of the files, the tables of definitions (README) and of functions without an ensures (docs/DECISIONS.md), proofs with must-fail edits and
+# programs (rt ci), stored runs of gwrprint, and the Rust side (scripts/rust.sh: its tests, and the comparison with 000).
 # The last line is 'N passed, M failed', and the exit status says whether M is 0.
 set -u
 cd "$(dirname "$0")/.." || exit 2

@@ -131,7 +131,7 @@ pub record DemandTwo : Type 0 where
   -- 000's order is that of the publication where a product and a quotient may change places, as exact fractions do
   pub aicc-order : (pi : Fraction) (root ln : Fraction → Fraction) (n sigma trace : Fraction)
       → aicc.published (aicc.exact pi root ln) n sigma trace ≡ aicc.formula (aicc.exact pi root ln) n sigma trace
-  -- and an operation is that of fractions, rounded once to the nearest, and 2 is 2; the root is the nearest to the exact one (`root-nearest`), ln has 01's steps
+  -- and an operation is that of fractions, rounded once to the nearest, and the constant 2 is exact; the root is the nearest to the exact one (`root-nearest`), ln has 01's steps
   pub aicc-once : (pi : Fraction) (root ln : Fraction → Fraction) →
       let exact = aicc.exact pi root ln in
       Once (aicc.rounded .plus) (exact .plus)

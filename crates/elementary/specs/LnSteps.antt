@@ -21,7 +21,7 @@ pub record SplitAs (v : Float) (n x : ℕ) : Type 0 where
   pub exponent-is : exponent v ≡ minus x 1023
   pub value-is : HasValue v false (n * 2 ^ x) (2 ^ 1075)
 
--- s, and what the n steps from it work out: 1/j, w·s and the next s
+-- finite: s, and what the n steps from it work out, 1/j, w·s and the next s
 abbrev pub StepsFinite : ℕ → Float → Float → Type 0
 StepsFinite zero w s = T (finite s)
 StepsFinite (suc n) w s = T (finite s) × T (finite (div binary64 one (ofInt binary64 (pos (2 * n + 1))))) × T (finite (mul binary64 w s)) × StepsFinite n w (lnStep w s (2 * n + 1))
@@ -50,7 +50,7 @@ zOf m = div binary64 (sub binary64 m one) (add binary64 m one)
 abbrev pub wOf : Float → Float
 wOf m = mul binary64 (zOf m) (zOf m)
 
--- every step from z on, of m from 3/4 to 3/2 and e, is finite: |z| is at most 1/4, w from 0 to 1/16, s from 1 to 33/32
+-- 01's steps once m and e are settled: each is finite, |z| at most 1/4, w from 0 to 1/16, s from 1 to 33/32, and the answer at most 711 in size
 pub record SplitFinite (m e : Float) : Type 0 where
   pub less-one : T (finite (sub binary64 m one))
   pub and-one : T (finite (add binary64 m one))
@@ -70,7 +70,7 @@ pub record SplitFinite (m e : Float) : Type 0 where
   pub answer : T (finite (lnSplit m e))
   pub answer-in : T (le (magnitude (lnSplit m e)) most)
 
--- every one of 01's steps for ln v is finite, and the answer at most 711 in size
+-- 01's steps for ln v, m from 1 to 2, and halved with e raised by one where it is 1.5 or more: each is finite, and the answer at most 711 in size
 pub record LnFinite (v : Float) : Type 0 where
   pub m : T (finite (mantissa v))
   pub m-low : T (le one (mantissa v))
