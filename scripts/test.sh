@@ -1,6 +1,6 @@
 #!/usr/bin/env bash
-# All tests: layout of the files, the table of definitions in README, proofs with must-fail edits and programs (rt ci), stored runs of gwrprint, and the Rust side
-# (scripts/rust.sh: its tests, and the comparison with 000).
+# All tests: layout of the files, the tables of definitions and theorems (README) and of functions without an ensures (docs/DECISIONS.md), proofs with must-fail edits and
+# programs (rt ci), stored runs of gwrprint, and the Rust side (scripts/rust.sh: its tests, and the comparison with 000).
 # The last line is 'N passed, M failed', and the exit status says whether M is 0.
 set -u
 cd "$(dirname "$0")/.." || exit 2
@@ -12,6 +12,8 @@ bash scripts/reading.sh
 note $? "the table of definitions in README (scripts/reading.sh fix)"
 bash scripts/theorems.sh
 note $? "the tables of theorems in README"
+bash scripts/contracts.sh
+note $? "the functions without an ensures in docs/DECISIONS.md (scripts/contracts.sh list)"
 
 # run COMMAND..: shows what it writes, and counts what its last line says.
 run() {

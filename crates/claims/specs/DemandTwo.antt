@@ -10,25 +10,23 @@ use lib.IntN.{pos}
 use lib.ListN.{length}
 use lib.Ieee.{Float, nan, inf, fin, binary64, lt, le, eq, fits, isNan, toBits}
 use lib.Ieee.Scale.{finite}
-use lib.Ieee.Positive.{num}
 use Rattle.real.specs.Reals.{zero64, one64}
+use Rattle.real.specs.Fractions.{Fraction, fraction, fractionOf, Once, OnceBy}
 use Rattle.root.specs.Root.{root, inf64}
-use Rattle.root.proofs.Nearest.{NearestRoot}
+use Rattle.root.specs.Nearest.{NearestRoot}
 use Rattle.exponent_table.specs.Reduction.{nought, one, floor708, expK}
 use Rattle.elementary.specs.Exp.{expv}
 use Rattle.elementary.specs.Ln as ln
-use Rattle.elementary.proofs.LnRange.{LnFinite}
-use Rattle.elementary.proofs.SplitExact.{SplitAs}
+use Rattle.elementary.specs.LnSteps.{LnFinite, SplitAs}
 use Rattle.refusal.specs.declared.Refusal.the-variants.{DeviationNotFinite}
 use Rattle.kernel.specs.declared.GwrKernel.{GwrKernel}
 use Rattle.kernel.specs.declared.GwrKernel.the-variants.{Gaussian, Bisquare, Exponential}
 use Rattle.kernel.specs.Weight.{unusable, weightOf, FromZeroToOne}
 use Rattle.kernel.specs.Published as kernels
 use Rattle.neighbours.specs.declared.GwrBandwidth.{GwrBandwidth}
-use Rattle.neighbours.specs.Count.{ceilRoot}
+use Rattle.neighbours.specs.Count.{ceilRoot, LeastRoot}
 use Rattle.neighbours.specs.Walk.{nearestOf}
 use Rattle.neighbours.specs.Smallest.{allOf, metOf, Ascending, kthNearest}
-use Rattle.neighbours.proofs.Roots.{LeastRoot}
 use Rattle.normal.specs.Weights.{weightsAt}
 use Rattle.local.specs.Estimate as estimate
 use Rattle.local.specs.NormalEquations.{ExactFit, Solves}
@@ -91,17 +89,20 @@ pub record DemandTwo : Type 0 where
   -- the listed spot: b not finite or b ≤ 0
   pub kernel-spot : (k : GwrKernel) (d b : Float) → T (unusable b) → weightOf k d b ≡ cond (eq d zero64) one64 zero64
   -- on fractions, where nothing is rounded, the formulas are exp(-(d/b)²/2), (1 - (d/b)²)² below b and 0 from there on, exp(-d/b); here d/b is (a/c)/(p/q)
-  pub gaussian : (a c p q : ℕ) → kernels.formula kernels.exact Gaussian (kernels.fraction false a c) (kernels.fraction false p q)
-      ≡ kernels.power (kernels.fraction true (a * q * (a * q)) (2 * (p * c * (p * c))))
+  pub gaussian : (a c p q : ℕ) → kernels.formula kernels.exact Gaussian (fraction false a c) (fraction false p q)
+      ≡ kernels.power (fraction true (a * q * (a * q)) (2 * (p * c * (p * c))))
   pub bisquare : (a c p q : ℕ) → a * q < p * c →
       let u = p * c * (p * c) - a * q * (a * q) in
-      kernels.formula kernels.exact Bisquare (kernels.fraction false a c) (kernels.fraction false p q) ≡ kernels.plain (kernels.fraction false (u * u) (p * c * (p * c) * (p * c * (p * c))))
-  pub bisquare-outside : (a c p q : ℕ) → p * c ≤ a * q → kernels.formula kernels.exact Bisquare (kernels.fraction false a c) (kernels.fraction false p q) ≡ kernels.plain (kernels.fraction false 0 1)
-  pub exponential : (a c p q : ℕ) → kernels.formula kernels.exact Exponential (kernels.fraction false a c) (kernels.fraction false p q) ≡ kernels.power (kernels.fraction true (a * q) (p * c))
-  -- and an operation is that of fractions, rounded once to the nearest
-  pub minus-once : (x y : Float) → T (finite x) → T (finite y) → kernels.rounded .minus x y ≡ kernels.nearest64 (kernels.exact .minus (kernels.fractionOf x) (kernels.fractionOf y))
-  pub times-once : (x y : Float) → T (finite x) → T (finite y) → kernels.rounded .times x y ≡ kernels.nearest64 (kernels.exact .times (kernels.fractionOf x) (kernels.fractionOf y))
-  pub over-once : (x y : Float) → T (finite x) → T (finite y) → 0 < num y → kernels.rounded .over x y ≡ kernels.nearest64 (kernels.exact .over (kernels.fractionOf x) (kernels.fractionOf y))
+      kernels.formula kernels.exact Bisquare (fraction false a c) (fraction false p q) ≡ kernels.plain (fraction false (u * u) (p * c * (p * c) * (p * c * (p * c))))
+  pub bisquare-outside : (a c p q : ℕ) → p * c ≤ a * q → kernels.formula kernels.exact Bisquare (fraction false a c) (fraction false p q) ≡ kernels.plain (fraction false 0 1)
+  pub exponential : (a c p q : ℕ) → kernels.formula kernels.exact Exponential (fraction false a c) (fraction false p q) ≡ kernels.power (fraction true (a * q) (p * c))
+  -- and an operation is that of fractions, rounded once to the nearest; sign, comparison and constants are those of fractions
+  pub minus-once : Once (kernels.rounded .minus) (kernels.exact .minus)
+  pub times-once : Once (kernels.rounded .times) (kernels.exact .times)
+  pub over-once : OnceBy (kernels.rounded .over) (kernels.exact .over)
+  pub opposite-exact : (x : Float) → T (finite x) → fractionOf (kernels.rounded .opposite x) ≡ kernels.exact .opposite (fractionOf x)
+  pub less-exact : (x y : Float) → T (finite x) → T (finite y) → kernels.rounded .less x y ≡ kernels.exact .less (fractionOf x) (fractionOf y)
+  pub constants-exact : (fractionOf (kernels.rounded .nought) ≡ kernels.exact .nought) × (fractionOf (kernels.rounded .half) ≡ kernels.exact .half) × (fractionOf (kernels.rounded .one) ≡ kernels.exact .one)
   -- every weight of a non-negative distance lies from 0 to 1, and a location's own weight is 1
   pub weight-range : (k : GwrKernel) (d b : Float) → T (le zero64 d) → FromZeroToOne (weightOf k d b)
   pub weight-own : (k : GwrKernel) (s : Bool) (b : Float) → weightOf k (fin s 0 (pos 0)) b ≡ one64
@@ -128,8 +129,16 @@ pub record DemandTwo : Type 0 where
       T (finite sigma) → T (not (le sigma zero64)) → T (not (exhausted (freedom (realOf n) trace)))
       → correctedAic n rss trace ≡ criterion.Value (aicc.formula aicc.rounded (realOf n) sigma trace)
   -- 000's order is that of the publication where a product and a quotient may change places, as exact fractions do
-  pub aicc-order : (pi : aicc.Fraction) (root ln : aicc.Fraction → aicc.Fraction) (n sigma trace : aicc.Fraction)
+  pub aicc-order : (pi : Fraction) (root ln : Fraction → Fraction) (n sigma trace : Fraction)
       → aicc.published (aicc.exact pi root ln) n sigma trace ≡ aicc.formula (aicc.exact pi root ln) n sigma trace
+  -- and an operation is that of fractions, rounded once to the nearest, and the constant 2 is exact; the root is the nearest to the exact one (`root-nearest`), ln has 01's steps
+  pub aicc-once : (pi : Fraction) (root ln : Fraction → Fraction) →
+      let exact = aicc.exact pi root ln in
+      Once (aicc.rounded .plus) (exact .plus)
+      × Once (aicc.rounded .minus) (exact .minus)
+      × Once (aicc.rounded .times) (exact .times)
+      × OnceBy (aicc.rounded .over) (exact .over)
+      × (fractionOf (aicc.rounded .two) ≡ exact .two)
   -- the listed spots: a root of mean square of 0 is replaced by 2^-1022, |D| ≤ EPS gives +infinity, and one not finite is refusal 17
   pub aicc-zero : (n : ℕ) (rss trace : Float) →
       let sigma = aicc.sigmaOf aicc.rounded (realOf n) rss in
