@@ -22,7 +22,8 @@ use Rattle.neighbours.proofs.Smallest.{kept-smallest, bandwidth-is-kth, all-met
 use Rattle.normal.proofs.WeightSum.{weight-sum}
 use Rattle.criterion.proofs.Published.{published-exact, aicc-rounded, aicc-refused, aicc-exhausted, aicc-floored}
 use Rattle.golden.proofs.Round.{G-is, G2-is}
-use Rattle.golden.proofs.Kiefer.{round-kiefer, searched, round-narrows}
+use Rattle.golden.proofs.Points.{near-golden, start-places, round-places, residues, golden-section}
+use Rattle.golden.proofs.Kiefer.{round-kiefer, searched, round-narrows, bottom-kept, bottom-stays}
 use Rattle.local.proofs.NormalEquations.{normal-equations}
 use Rattle.plan.specs.declared.GwrOptions.{GwrOptions}
 use Rattle.plan.specs.declared.Plan.{Plan}
@@ -30,6 +31,7 @@ use Rattle.gwr.specs.Fit.{planned, jobData, fitOf}
 use Rattle.gwr.proofs.Literal.{fit-literal}
 use Rattle.claims.specs.Conditions.{None, SomeNotFinite, inputConditions}
 use Rattle.claims.specs.DemandTwo.{DemandTwo}
+use Rattle.claims.proofs.Spanning.{job-searched}
 
 -- ---- the coordinates of an accepted job are finite
 
@@ -67,7 +69,15 @@ demand-two =
       searched = fit-literal;
       ratio = (G-is, G2-is);
       round-kiefer = round-kiefer;
-      points-inside = searched;
+      first-points = start-places;
+      next-points = round-places;
+      golden-section = golden-section;
+      residues = residues;
+      ratio-near = near-golden;
+      points-inside = job-searched;
+      span-inside = searched;
+      bottom-kept = bottom-kept;
+      bottom-stays = bottom-stays;
       round-narrows = round-narrows;
       normal-equations = normal-equations;
       root-nearest = root-nearest;
