@@ -62,18 +62,20 @@ pub record DemandTwo : Type 1 where
   -- Kiefer 1953: a round keeps the part about the lower score, reuses one inner point and its score, and makes one new trial
   pub round-kiefer : (g : Bracket) (s : Float) → KieferRound g (narrowOf g s) s
   -- the points stand at the golden section. 000's are the formulas with each operation rounded once
-  pub first-points : (lo hi : Float) → points.placesOf (startOf lo hi) ≡ points.placesAt points.rounded lo hi
-  pub next-points : (g : Bracket) (s : Float) → points.placesOf (narrowOf g s) ≡ points.nextPlaces points.rounded (goesLeft g) (points.placesOf g)
+  pub first-points : (lo hi : Float) → points.sectionOf (startOf lo hi) ≡ points.sectionAt points.rounded lo hi
+  pub next-points : (g : Bracket) (s : Float) → points.sectionOf (narrowOf g s) ≡ points.nextSection points.rounded (goesLeft g) (points.sectionOf g)
   -- where nothing is rounded and g² = 1 - g, they are Kiefer's: a + g²·h is b - g·h, and after a round on either side the reused point stands where the part kept wants it
   pub golden-section : {R : Type 0} (K : points.CommutativeRing R) (g : R) → K .times g g ≡ points.exact K g .minus (K .one) g → (a b : R) → points.GoldenSection K g a b
   -- of any other ratio, what e = g² + g - 1 leaves of that
   pub residues : {R : Type 0} (K : points.CommutativeRing R) (g a b : R) → points.Residues K g a b
   -- and of G that is 38494044947129 / 2^98, below 2^-52; G2 - (1 - G) is 2^-53
   pub ratio-near : points.NearGolden
-  -- of any number of rounds of an accepted job's search, every point tried lies from lo to hi, rounding included, and the answer is a point tried
+  -- an accepted job's search goes between finite numbers lo ≤ hi whose difference is finite
+  pub search-span : (coords x y : List Float) (p : ℕ) (o : GwrOptions) (out : List Float) (lo hi : Float) → acceptOf coords x y p o (length out) ≡ plan.Sought lo hi → Span lo hi
+  -- of any number of its rounds, every point tried lies from lo to hi, rounding included, and the answer is a point tried
   pub points-inside : (coords x y : List Float) (p : ℕ) (o : GwrOptions) (out : List Float) (lo hi : Float) → acceptOf coords x y p o (length out) ≡ plan.Sought lo hi
       → (s t : Float) (l : List Float) → Searched lo hi s t l
-  -- so of every search between finite numbers whose difference is finite
+  -- as of every search between such numbers
   pub span-inside : {lo hi : Float} → Span lo hi → (s t : Float) (l : List Float) → Searched lo hi s t l
   -- of a score with one valley on the points compared, a round that begins with c < d keeps the bottom m in the bracket
   pub bottom-kept : (f : Float → Float) (g : Bracket) (s m : Float) → T (lt (g .c) (g .d)) → ScoredBy f g

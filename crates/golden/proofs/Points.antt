@@ -5,7 +5,7 @@ use lib.Dec.{lit<}
 use lib.Ieee.{Float, binary64, mul, lt, ofBits}
 use Rattle.golden.specs.declared.Bracket.{Bracket}
 use Rattle.golden.specs.Golden.{G, G2, startOf, goesLeft, aimOf, narrowOf, improvedOf}
-use Rattle.golden.specs.Points.{Arithmetic, lowerPoint, upperPoint, Places, placesAt, nextPlaces, rounded, placesOf, CommutativeRing, exact, residual, Residues, GoldenSection, NearGolden}
+use Rattle.golden.specs.Points.{Arithmetic, lowerPoint, upperPoint, Section, sectionAt, nextSection, rounded, sectionOf, CommutativeRing, exact, residual, Residues, GoldenSection, NearGolden}
 use Rattle.golden.proofs.Round.{improved-is}
 
 -- ---- how far G and G2 are from the golden section
@@ -18,15 +18,15 @@ square-is : G2 ≡ mul binary64 G G
 unfolding mul ofBits
 square-is = refl
 
-pub start-places : (lo hi : Float) → placesOf (startOf lo hi) ≡ placesAt rounded lo hi
-unfolding startOf placesAt
-start-places lo hi = rw square-is
+pub start-section : (lo hi : Float) → sectionOf (startOf lo hi) ≡ sectionAt rounded lo hi
+unfolding startOf sectionAt
+start-section lo hi = rw square-is
 
-pub round-places : (g : Bracket) (s : Float) → placesOf (narrowOf g s) ≡ nextPlaces rounded (goesLeft g) (placesOf g)
-unfolding narrowOf aimOf nextPlaces
-round-places g s = go (lt (g .fc) (g .fd)) refl
+pub round-section : (g : Bracket) (s : Float) → sectionOf (narrowOf g s) ≡ nextSection rounded (goesLeft g) (sectionOf g)
+unfolding narrowOf aimOf nextSection
+round-section g s = go (lt (g .fc) (g .fd)) refl
   where
-    go : (b : Bool) → lt (g .fc) (g .fd) ≡ b → placesOf (narrowOf g s) ≡ nextPlaces rounded (goesLeft g) (placesOf g)
+    go : (b : Bool) → lt (g .fc) (g .fd) ≡ b → sectionOf (narrowOf g s) ≡ nextSection rounded (goesLeft g) (sectionOf g)
     go true e = rw (improved-is, e, square-is)
     go false e = rw (improved-is, e)
 
@@ -37,8 +37,12 @@ module _ {R : Type 0} (K : CommutativeRing R) where
   infixl 6 _+_
   infixl 7 _*_
   infix 8 -_
-  zero-plus : (x : R) → 𝟘 + x ≡ x
-  zero-plus x = plus-commutative 𝟘 x ∙ plus-zero x
+  -- c and d of the bracket from a to b, with the ratio g
+  abbrev low : R → R → R → R
+  low g = lowerPoint (exact K g)
+
+  abbrev high : R → R → R → R
+  high g = upperPoint (exact K g)
 
   -- (x + y) - x = y
   less-first : (x y : R) → x + y + - x ≡ y
@@ -51,7 +55,7 @@ module _ {R : Type 0} (K : CommutativeRing R) where
   cancel : (x y z : R) → x + y ≡ x + z → y ≡ z
   cancel x y z e = sym (less-first x y) ∙ ap (λ (v : R). v + - x) e ∙ less-first x z
 
-  -- x + y = z where x = z - y
+  -- x = z - y where x + y = z
   from-sum : (x y z : R) → x + y ≡ z → x ≡ z + - y
   from-sum x y z e = sym (less-first y x) ∙ ap (λ (v : R). v + - y) (plus-commutative y x ∙ e)
 
@@ -78,12 +82,12 @@ module _ {R : Type 0} (K : CommutativeRing R) where
     e = residual K g
 
     abbrev c : R
-    c = lowerPoint (exact K g) a b
+    c = low g a b
 
     abbrev d : R
-    d = upperPoint (exact K g) a b
+    d = high g a b
 
-    -- g²·h + g·h = h + e·h, for any number of widths
+    -- g²·w + g·w = w + e·w
     both : (w : R) → g * g * w + g * w ≡ w + e * w
     both w = sym (over-sum (g * g) g w) ∙ ap (λ (v : R). v * w) (sym (back 𝟙 (g * g + g))) ∙ over-sum 𝟙 e w ∙ ap (λ (v : R). v + e * w) (one-times w)
 
@@ -98,11 +102,11 @@ module _ {R : Type 0} (K : CommutativeRing R) where
     left-part : d + - a ≡ g * h
     left-part = less-first a (g * h)
 
-    left-reused : upperPoint (exact K g) a d ≡ c
+    left-reused : high g a d ≡ c
     left-reused = ap (λ (v : R). a + g * v) left-part ∙ ap (λ (v : R). a + v) (sym (times-associative g g h))
 
     -- the part from c to b wants its c at d, but for what e·h makes of it
-    right-place : lowerPoint (exact K g) c b + g * g * (e * h) ≡ d + g * (e * h)
+    right-place : low g c b + g * g * (e * h) ≡ d + g * (e * h)
     right-place =
         plus-associative c (g * g * (b + - c)) (g * g * (e * h))
         ∙ ap (λ (v : R). c + v) (sym (distributive (g * g) (b + - c) (e * h)) ∙ ap (λ (v : R). g * g * v) right-part)
@@ -123,7 +127,7 @@ module _ {R : Type 0} (K : CommutativeRing R) where
               ∙ sym (plus-associative a b u);
           left = left-reused;
           right =
-              from-sum (lowerPoint (exact K g) c b) (g * g * u) (d + g * u) right-place
+              from-sum (low g c b) (g * g * u) (d + g * u) right-place
               ∙ sym
               (from-sum (d + v) (g * g * u) (d + g * u)
               (plus-associative d v (g * g * u)
@@ -141,37 +145,31 @@ module _ {R : Type 0} (K : CommutativeRing R) where
         ∙ times-zero w
 
     module _ (a b : R) where
-      abbrev c′ : R
-      c′ = lowerPoint (exact K g) a b
-
-      abbrev d′ : R
-      d′ = upperPoint (exact K g) a b
-
       -- c + d = a + b
-      mirror : c′ + d′ ≡ a + b
+      mirror : low g a b + high g a b ≡ a + b
       mirror = residues g a b .mirrored ∙ ap (λ (v : R). a + b + v) (no-residual (b + - a)) ∙ plus-zero (a + b)
 
-      right-reused : lowerPoint (exact K g) c′ b ≡ d′
+      right-reused : low g (low g a b) b ≡ high g a b
       right-reused =
           residues g a b .right
-          ∙ ap (λ (v : R). d′ + (g + - (g * g)) * v) (no-residual (b + - a))
-          ∙ ap (λ (v : R). d′ + v) (times-zero (g + - (g * g)))
-          ∙ plus-zero d′
+          ∙ ap (λ (v : R). high g a b + (g + - (g * g)) * v) (no-residual (b + - a))
+          ∙ ap (λ (v : R). high g a b + v) (times-zero (g + - (g * g)))
+          ∙ plus-zero (high g a b)
 
     pub golden-section : (a b : R) → GoldenSection K g a b
-    unfolding placesAt nextPlaces
+    unfolding sectionAt nextSection
     golden-section a b =
         record {
-          from-right = from-sum (c′ a b) (g * (b + - a)) b (lower-right g a b ∙ ap (λ (v : R). b + v) (no-residual (b + - a)) ∙ plus-zero b);
+          from-right = from-sum (low g a b) (g * (b + - a)) b (lower-right g a b ∙ ap (λ (v : R). b + v) (no-residual (b + - a)) ∙ plus-zero b);
           left-width = left-part g a b;
-          right-width = sym (plus-zero (b + - c′ a b)) ∙ ap (λ (v : R). b + - c′ a b + v) (sym (no-residual (b + - a))) ∙ right-part g a b;
+          right-width = sym (plus-zero (b + - low g a b)) ∙ ap (λ (v : R). b + - low g a b + v) (sym (no-residual (b + - a))) ∙ right-part g a b;
           round = λ left. sides left;
-          left-new = from-sum (lowerPoint (exact K g) a (d′ a b)) (c′ a b) (a + d′ a b) (ap (λ (v : R). lowerPoint (exact K g) a (d′ a b) + v) (sym (left-reused g a b)) ∙ mirror a (d′ a b));
+          left-new = from-sum (low g a (high g a b)) (low g a b) (a + high g a b) (ap (λ (v : R). low g a (high g a b) + v) (sym (left-reused g a b)) ∙ mirror a (high g a b));
           right-new =
-              from-sum (upperPoint (exact K g) (c′ a b) b) (d′ a b) (c′ a b + b)
-              (plus-commutative (upperPoint (exact K g) (c′ a b) b) (d′ a b) ∙ ap (λ (v : R). v + upperPoint (exact K g) (c′ a b) b) (sym (right-reused a b)) ∙ mirror (c′ a b) b);
+              from-sum (high g (low g a b) b) (high g a b) (low g a b + b)
+              (plus-commutative (high g (low g a b) b) (high g a b) ∙ ap (λ (v : R). v + high g (low g a b) b) (sym (right-reused a b)) ∙ mirror (low g a b) b);
         }
       where
-        sides : (left : Bool) → nextPlaces (exact K g) left (placesAt (exact K g) a b) ≡ placesAt (exact K g) (cond left a (c′ a b)) (cond left (d′ a b) b)
-        sides true = ap (λ (v : R). record { a = a; b = d′ a b; c = lowerPoint (exact K g) a (d′ a b); d = v }) (sym (left-reused g a b))
-        sides false = ap (λ (v : R). record { a = c′ a b; b = b; c = v; d = upperPoint (exact K g) (c′ a b) b }) (sym (right-reused a b))
+        sides : (left : Bool) → nextSection (exact K g) left (sectionAt (exact K g) a b) ≡ sectionAt (exact K g) (cond left a (low g a b)) (cond left (high g a b) b)
+        sides true = ap (λ (v : R). record { a = a; b = high g a b; c = low g a (high g a b); d = v }) (sym (left-reused g a b))
+        sides false = ap (λ (v : R). record { a = low g a b; b = b; c = v; d = high g (low g a b) b }) (sym (right-reused a b))

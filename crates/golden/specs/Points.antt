@@ -25,20 +25,20 @@ lowerPoint A a b = A .plus a (A .times (A .times (A .ratio) (A .ratio)) (A .minu
 abbrev pub upperPoint : {R : Type 0} → Arithmetic R → R → R → R
 upperPoint A a b = A .plus a (A .times (A .ratio) (A .minus b a))
 
--- the ends a b of a bracket and its inner points c d
-pub record Places (R : Type 0) : Type 0 where
+-- the ends a b of a bracket, and the inner points c d that divide it
+pub record Section (R : Type 0) : Type 0 where
   pub a : R
   pub b : R
   pub c : R
   pub d : R
 
 -- the bracket from a to b, its inner points at the golden section: the first of a search
-unfoldable pub placesAt : {R : Type 0} → Arithmetic R → R → R → Places R
-placesAt A a b = record { a = a; b = b; c = lowerPoint A a b; d = upperPoint A a b }
+unfoldable pub sectionAt : {R : Type 0} → Arithmetic R → R → R → Section R
+sectionAt A a b = record { a = a; b = b; c = lowerPoint A a b; d = upperPoint A a b }
 
 -- after a round that keeps the part from a to d, c is reused as its d, and its c is new; of the part from c to b, d is reused as its c, and its d is new
-unfoldable pub nextPlaces : {R : Type 0} → Arithmetic R → Bool → Places R → Places R
-nextPlaces A left p =
+unfoldable pub nextSection : {R : Type 0} → Arithmetic R → Bool → Section R → Section R
+nextSection A left p =
     cond left (record { a = p .a; b = p .d; c = lowerPoint A (p .a) (p .d); d = p .c })
     (record { a = p .c; b = p .b; c = p .d; d = upperPoint A (p .c) (p .b) })
 
@@ -47,9 +47,9 @@ nextPlaces A left p =
 abbrev pub rounded : Arithmetic Float
 rounded = record { ratio = G; plus = add binary64; minus = sub binary64; times = mul binary64 }
 
--- the places of a bracket of the search
-abbrev pub placesOf : Bracket → Places Float
-placesOf g = record { a = g .a; b = g .b; c = g .c; d = g .d }
+-- the ends and inner points of a bracket of the search
+abbrev pub sectionOf : Bracket → Section Float
+sectionOf g = record { a = g .a; b = g .b; c = g .c; d = g .d }
 
 -- ---- a commutative ring, as the real numbers are one: nothing is rounded
 
@@ -74,7 +74,7 @@ exact K g = record { ratio = g; plus = K .plus; minus = λ x y. K .plus x (K .op
 
 -- ---- what holds there
 
--- g² + g - 1, which is 0 of the golden section
+-- e = g² + g - 1, which is 0 where g² = 1 - g
 abbrev pub residual : {R : Type 0} → CommutativeRing R → R → R
 residual K g = let A = exact K g in A .minus (A .plus (A .times g g) g) (K .one)
 
@@ -92,7 +92,7 @@ pub record Residues {R : Type 0} (K : CommutativeRing R) (g a b : R) : Type 0 wh
       lowerPoint A (lowerPoint A a b) b
       ≡ A .plus (upperPoint A a b) (A .times (A .minus g (A .times g g)) (A .times (residual K g) (A .minus b a)))
 
--- of the golden section, g² = 1 - g, and any bracket from a to b, with h = b - a
+-- where g² = 1 - g, as (√5 - 1) / 2 of the real numbers, and of any bracket from a to b, with h = b - a
 pub record GoldenSection {R : Type 0} (K : CommutativeRing R) (g a b : R) : Type 0 where
   -- a + g²·h is b - g·h
   pub from-right : let A = exact K g in lowerPoint A a b ≡ A .minus b (A .times g (A .minus b a))
@@ -102,7 +102,7 @@ pub record GoldenSection {R : Type 0} (K : CommutativeRing R) (g a b : R) : Type
   -- after a round on either side both points, the reused and the new, stand at the golden section of the part kept
   pub round : (left : Bool) →
       let A = exact K g in
-      nextPlaces A left (placesAt A a b) ≡ placesAt A (cond left a (lowerPoint A a b)) (cond left (upperPoint A a b) b)
+      nextSection A left (sectionAt A a b) ≡ sectionAt A (cond left a (lowerPoint A a b)) (cond left (upperPoint A a b) b)
   -- Kiefer's rule: the new point is the mirror image of the reused one in the part kept
   pub left-new : let A = exact K g in lowerPoint A a (upperPoint A a b) ≡ A .minus (A .plus a (upperPoint A a b)) (lowerPoint A a b)
   pub right-new : let A = exact K g in upperPoint A (lowerPoint A a b) b ≡ A .minus (A .plus (lowerPoint A a b) b) (upperPoint A a b)
