@@ -138,7 +138,7 @@ pub record Searched (lo hi s t : Float) (l : List Float) : Type 0 where
 
 -- ---- one valley
 
--- on these points the score f has one valley, its bottom at m: up to m it nowhere rises, from m on it rises strictly
+-- on these points the score f is unimodal, one valley with its bottom at m: up to m it nowhere rises (a NaN is no rise), from m on it rises strictly
 pub record Valley (f : Float → Float) (points : List Float) (m : Float) : Type 0 where
   pub falls : (x y : Float) → Among x points → Among y points → T (lt x y) → T (le y m) → T (not (lt (f x) (f y)))
   pub rises : (x y : Float) → Among x points → Among y points → T (le m x) → T (lt x y) → T (lt (f x) (f y))
