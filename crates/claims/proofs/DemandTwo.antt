@@ -23,7 +23,8 @@ use Rattle.neighbours.proofs.Smallest.{kept-smallest, bandwidth-is-kth, all-met
 use Rattle.normal.proofs.WeightSum.{weight-sum}
 use Rattle.criterion.proofs.Published.{published-exact, two-exact, aicc-rounded, aicc-refused, aicc-exhausted, aicc-floored}
 use Rattle.golden.proofs.Round.{G-is, G2-is}
-use Rattle.golden.proofs.Kiefer.{round-kiefer, searched, round-narrows}
+use Rattle.golden.proofs.Points.{near-golden, start-section, round-section, residues, golden-section}
+use Rattle.golden.proofs.Kiefer.{round-kiefer, searched, round-narrows, bottom-kept, bottom-stays}
 use Rattle.local.proofs.NormalEquations.{normal-equations}
 use Rattle.plan.specs.declared.GwrOptions.{GwrOptions}
 use Rattle.plan.specs.declared.Plan.{Plan}
@@ -31,6 +32,7 @@ use Rattle.gwr.specs.Fit.{planned, jobData, fitOf}
 use Rattle.gwr.proofs.Literal.{fit-literal}
 use Rattle.claims.specs.Conditions.{None, SomeNotFinite, inputConditions}
 use Rattle.claims.specs.DemandTwo.{DemandTwo}
+use Rattle.claims.proofs.Spanning.{job-span, job-searched}
 
 -- ---- the coordinates of an accepted job are finite
 
@@ -68,7 +70,16 @@ demand-two =
       searched = fit-literal;
       ratio = (G-is, G2-is);
       round-kiefer = round-kiefer;
-      points-inside = searched;
+      first-points = start-section;
+      next-points = round-section;
+      golden-section = golden-section;
+      residues = residues;
+      ratio-near = near-golden;
+      search-span = job-span;
+      points-inside = job-searched;
+      span-inside = searched;
+      bottom-kept = bottom-kept;
+      bottom-stays = bottom-stays;
       round-narrows = round-narrows;
       normal-equations = normal-equations;
       root-nearest = root-nearest;

@@ -4,7 +4,7 @@
 use Prim.Native.Nat.{ℕ, _+_, _-_, _*_, _/_, _%_, _^_, _≤_, _<_}
 use mathlib.Core.Path.{_≡_}
 use mathlib.Core.Bool.{Bool, true, false, not, cond}
-use mathlib.Core.List.{List, List·Permᴰ}
+use mathlib.Core.List.{List, [], _∷_, List·Permᴰ}
 use lib.Dec.{T}
 use lib.IntN.{pos}
 use lib.ListN.{length}
@@ -34,8 +34,9 @@ use Rattle.criterion.specs.declared.Criterion.the-variants as criterion
 use Rattle.criterion.specs.Aicc.{realOf, leastNormal, freedom, exhausted, correctedAic}
 use Rattle.criterion.specs.Published as aicc
 use Rattle.golden.specs.declared.Bracket.{Bracket}
-use Rattle.golden.specs.Golden.{invPhi, invPhi2, G, G2, narrowOf}
-use Rattle.golden.specs.Kiefer.{Span, Framed, Ordered, KieferRound, Narrowed, Searched}
+use Rattle.golden.specs.Golden.{invPhi, invPhi2, G, G2, startOf, goesLeft, narrowOf}
+use Rattle.golden.specs.Points as points
+use Rattle.golden.specs.Kiefer.{Span, Inside, Framed, Ordered, KieferRound, Narrowed, triedOf, playedOf, Searched, Valley, ScoredBy, Follows}
 use Rattle.plan.specs.declared.GwrOptions.{GwrOptions}
 use Rattle.plan.specs.declared.Plan.the-variants as plan
 use Rattle.plan.specs.Plan.{acceptOf, bandwidthAt}
@@ -43,7 +44,7 @@ use Rattle.gwr.specs.Search.{trialOf, goldenSectionMin}
 use Rattle.gwr.specs.Fit.{finalOf, jobData, fitOf}
 use Rattle.claims.specs.Conditions.{None, inputConditions}
 
-pub record DemandTwo : Type 0 where
+pub record DemandTwo : Type 1 where
   -- ---- golden section: 000's `golden_section_min` as it is written
 
   -- an unsearched fit, and a search with no trial, are a final fit at once
@@ -58,8 +59,28 @@ pub record DemandTwo : Type 0 where
   pub ratio : (G ≡ invPhi) × (G2 ≡ invPhi2)
   -- Kiefer 1953: a round keeps the part about the lower score, reuses one inner point and its score, and makes one new trial
   pub round-kiefer : (g : Bracket) (s : Float) → KieferRound g (narrowOf g s) s
-  -- of any number of rounds, every point tried lies from lo to hi, rounding included, and the answer is a point tried
-  pub points-inside : {lo hi : Float} → Span lo hi → (s t : Float) (l : List Float) → Searched lo hi s t l
+  -- the points stand at the golden section. 000's are the formulas with each operation rounded once
+  pub first-points : (lo hi : Float) → points.sectionOf (startOf lo hi) ≡ points.sectionAt points.rounded lo hi
+  pub next-points : (g : Bracket) (s : Float) → points.sectionOf (narrowOf g s) ≡ points.nextSection points.rounded (goesLeft g) (points.sectionOf g)
+  -- where nothing is rounded and g² = 1 - g, they are Kiefer's: a + g²·h is b - g·h, and after a round on either side the reused point stands where the part kept wants it
+  pub golden-section : {R : Type 0} (K : points.CommutativeRing R) (g : R) → K .times g g ≡ points.exact K g .minus (K .one) g → (a b : R) → points.GoldenSection K g a b
+  -- of any other ratio, what e = g² + g - 1 leaves of that
+  pub residues : {R : Type 0} (K : points.CommutativeRing R) (g a b : R) → points.Residues K g a b
+  -- and of G that is 38494044947129 / 2^98, below 2^-52; G2 - (1 - G) is 2^-53
+  pub ratio-near : points.NearGolden
+  -- an accepted job's search goes between finite numbers lo ≤ hi whose difference is finite
+  pub search-span : (coords x y : List Float) (p : ℕ) (o : GwrOptions) (out : List Float) (lo hi : Float) → acceptOf coords x y p o (length out) ≡ plan.Sought lo hi → Span lo hi
+  -- of any number of its rounds, every point tried lies from lo to hi, rounding included, and the answer is a point tried
+  pub points-inside : (coords x y : List Float) (p : ℕ) (o : GwrOptions) (out : List Float) (lo hi : Float) → acceptOf coords x y p o (length out) ≡ plan.Sought lo hi
+      → (s t : Float) (l : List Float) → Searched lo hi s t l
+  -- as of every search between such numbers
+  pub span-inside : {lo hi : Float} → Span lo hi → (s t : Float) (l : List Float) → Searched lo hi s t l
+  -- of a score with one valley on the points compared, a round that begins with c < d keeps the bottom m in the bracket
+  pub bottom-kept : (f : Float → Float) (g : Bracket) (s m : Float) → T (lt (g .c) (g .d)) → ScoredBy f g
+      → Valley f (g .c ∷ g .d ∷ []) m → Inside (g .a) (g .b) m → Inside (narrowOf g s .a) (narrowOf g s .b) m
+  -- and so do any number of them
+  pub bottom-stays : (f : Float → Float) (m : Float) (g : Bracket) (l : List Float) → ScoredBy f g → Follows f g l
+      → Valley f (g .c ∷ g .d ∷ triedOf g l) m → Inside (g .a) (g .b) m → Inside (playedOf g l .a) (playedOf g l .b) m
   -- a bracket lies within the one before while its inner points are in order; the listed spot: rounding can put them out of order
   pub round-narrows : (g : Bracket) (s : Float) → Framed g → Ordered g → Narrowed g (narrowOf g s)
   -- ---- the local solve: Fotheringham, Brunsdon and Charlton 2002
