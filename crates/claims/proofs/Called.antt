@@ -77,13 +77,13 @@ location-number r (inr (inl e)) = in-range r InverseNotFinite e (omega arith, om
 location-number r (inr (inr e)) = in-range r CoefficientNotFinite e (omega arith, omega arith)
 
 module _ (d : Data) (k : GwrKernel) (b : GwrBandwidth) where
-  abbrev solve : ℕ → Outcome
+  abbrev pub solve : ℕ → Outcome
   solve i = solveLocation d k b i .outcome
 
   abbrev MetIn : Refusal → ℕ → ℕ → Type 0
   MetIn r rows n = ((rows < n) × (solve rows ≡ outcome.Refused r)) ⊎ ((rows ≡ n) × (r ≡ DeviationNotFinite))
 
-  met-number : (r : Refusal) (rows n : ℕ) → MetIn r rows n → (14 ≤ refusalNumber r) × (refusalNumber r ≤ 17)
+  pub met-number : (r : Refusal) (rows n : ℕ) → MetIn r rows n → (14 ≤ refusalNumber r) × (refusalNumber r ≤ 17)
   met-number r rows n (inl h) = location-number r (subst OutcomeAt (h .1) (location-at d k b rows))
   met-number r rows n (inr h) = in-range r DeviationNotFinite (h .1) (omega arith, omega arith)
 
@@ -168,11 +168,11 @@ kind-says k kind bandwidth = go (eqb kind 0) (eqb kind 1) (eqb kind 2) (eqb kind
         let w : kind ≡ 3 → ⊥ = eqb-false _ _ h in
         omega arith
 
-abbrev OptionsSay : Choice → ℕ → ℕ → Type 0
+abbrev pub OptionsSay : Choice → ℕ → ℕ → Type 0
 OptionsSay (choice.Known o) number kind = (number ≤ 2) × (kind ≤ 3)
 OptionsSay choice.Unknown number kind = (2 < number) ⊎ (3 < kind)
 
-options-say : (number kind bandwidth : ℕ) → OptionsSay (optionsOf number kind bandwidth) number kind
+pub options-say : (number kind bandwidth : ℕ) → OptionsSay (optionsOf number kind bandwidth) number kind
 unfolding optionsOf
 options-say number kind bandwidth = go (kernelOf number) (kernel-says number)
   where
@@ -215,12 +215,12 @@ says-same check.Pass l m a h = none-same l m a h
 says-same (check.Refused r) l m a h = first-same l m r a h
 
 -- behind a condition that does not hold
-says-later : (k : Check) (c : Condition) (l : List Condition) → (c .holds → ⊥) → Says k l → Says k (c ∷ l)
+pub says-later : (k : Check) (c : Condition) (l : List Condition) → (c .holds → ⊥) → Says k l → Says k (c ∷ l)
 says-later check.Pass c l n h = (n, h)
 says-later (check.Refused r) c l n h = inr (n, h)
 
 -- before more conditions
-first-more : (l m : List Condition) (r : Refusal) → First-of l r → First-of (l ++ m) r
+pub first-more : (l m : List Condition) (r : Refusal) → First-of l r → First-of (l ++ m) r
 first-more [] m r h = absurd h
 first-more (c ∷ l) m r (inl h) = inl h
 first-more (c ∷ l) m r (inr h) = inr (h .0, first-more l m r (h .1))

@@ -1,7 +1,7 @@
 -- Headers and texts, case by case.
 use mathlib.Core.Path.{_≡_, refl, sym, ap, subst, _∙_}
 use mathlib.Core.Bool.{Bool, true, false, cond}
-use mathlib.Core.List.{List, [], _∷_}
+use mathlib.Core.List.{List, [], _∷_, _++_}
 use Prim.Native.Nat.{ℕ, _+_, _*_, _-_, _≤_, _<_}
 use native.Mathlib.Omega.{arith}
 use borrow.Author.Tests.{ltb-false, lt-ltb, le-ltb}
@@ -127,6 +127,24 @@ pub whole-input : (input : List ℕ) (h : Head) → headerOf input ≡ Whole h �
 unfolding printed
 whole-input input h e =
     ap (jobText h) (take-all (length input - 40) (drop 40 input) (omega (arith, length-drop 40 input))) ∙ sym (ap (λ (z : Header). textOf z (drop 40 input)) e)
+
+-- the text of an input is decided by the header's tests and then by those of the parts
+text-both : (ts us : List (Bool × Refusal)) (h : Head) (parts text : List ℕ) → jobText h parts ≡ textAfter (judge us) text → textOf (headerAfter (judge ts) h) parts ≡ textAfter (judge (ts ++ us)) text
+unfolding judge
+text-both [] us h parts text e = e
+text-both (t ∷ ts) us h parts text e = go (t .0) (text-both ts us h parts text e)
+  where
+    go : (b : Bool) → textOf (headerAfter (judge ts) h) parts ≡ textAfter (judge (ts ++ us)) text
+        → textOf (headerAfter (cond b (check.Refused (t .1)) (judge ts)) h) parts ≡ textAfter (cond b (check.Refused (t .1)) (judge (ts ++ us))) text
+    go true i = refl
+    go false i = i
+
+pub printed-by : (input : List ℕ)
+    → let h = headOf input in
+    let parts = drop 40 input in
+    printed input ≡ textAfter (judge (headerTests input ++ cutTests (length parts) (h .n) (h .p))) (wholeText h parts (replicate 45056 0) (replicate 24 0))
+unfolding printed headerOf jobText
+printed-by input = text-both (headerTests input) _ (headOf input) (drop 40 input) _ refl
 
 -- the text of whole parts, of the parts lent to the fit
 pub whole-text : (h : Head) (parts out summary x y : List ℕ) (a : After) → x ≡ take (8 * (h .n * h .p)) (drop (placesEnd (h .n)) parts) → y ≡ take (8 * h .n) (drop (predictorsEnd (h .n) (h .p)) parts)
