@@ -45,10 +45,10 @@ printConditions input =
     ∷ optionConditions (coordinatesIn h parts) n (optionsIn h)
 
 -- fitted, or a refusal met while solving
-abbrev pub Solved : FitAnswer → Type 0
-Solved (fit.Fitted s) = Unit {0}
-Solved (fit.Failed r s) = (14 ≤ refusalNumber r) × (refusalNumber r ≤ 17)
-Solved (fit.Rejected r) = ⊥
+abbrev pub FittedOrMet : FitAnswer → Type 0
+FittedOrMet (fit.Fitted s) = Unit {0}
+FittedOrMet (fit.Failed r s) = (14 ≤ refusalNumber r) × (refusalNumber r ≤ 17)
+FittedOrMet (fit.Rejected r) = ⊥
 
 -- the fit of the numbers that the input holds
 abbrev pub fitOn : List ℕ → Fit × List Float
@@ -57,6 +57,6 @@ fitOn input = let h = headOf input in fitIn h (drop 40 input) (optionsIn h)
 -- an input of which no condition holds: bytes left over are ignored
 pub record PrintServed (input : List ℕ) : Type 0 where
   -- that fit is not refused from the input, so that what is said of one that is served holds of it
-  pub solved : Solved (fitOn input .0 .answer)
+  pub answer : FittedOrMet (fitOn input .0 .answer)
   -- its bandwidth, AICc, solves and n rows, or the line of the refusal met while solving
   pub text : let h = headOf input in printed input ≡ fitText (fitOn input .0 .answer) (rowsIn (fitOn input .1) (h .p + 4) (h .n))
