@@ -71,19 +71,19 @@ placed-behind l row k h =
 in-range : (r s : Refusal) → r ≡ s → (14 ≤ refusalNumber s) × (refusalNumber s ≤ 17) → (14 ≤ refusalNumber r) × (refusalNumber r ≤ 17)
 in-range r s e h = subst⁻¹ (λ (z : Refusal). (14 ≤ refusalNumber z) × (refusalNumber z ≤ 17)) e h
 
-location-number : (r : Refusal) → AtLocation r → (14 ≤ refusalNumber r) × (refusalNumber r ≤ 17)
+pub location-number : (r : Refusal) → AtLocation r → (14 ≤ refusalNumber r) × (refusalNumber r ≤ 17)
 location-number r (inl e) = in-range r Singular e (omega arith, omega arith)
 location-number r (inr (inl e)) = in-range r InverseNotFinite e (omega arith, omega arith)
 location-number r (inr (inr e)) = in-range r CoefficientNotFinite e (omega arith, omega arith)
 
 module _ (d : Data) (k : GwrKernel) (b : GwrBandwidth) where
-  abbrev pub solve : ℕ → Outcome
+  abbrev solve : ℕ → Outcome
   solve i = solveLocation d k b i .outcome
 
   abbrev MetIn : Refusal → ℕ → ℕ → Type 0
   MetIn r rows n = ((rows < n) × (solve rows ≡ outcome.Refused r)) ⊎ ((rows ≡ n) × (r ≡ DeviationNotFinite))
 
-  pub met-number : (r : Refusal) (rows n : ℕ) → MetIn r rows n → (14 ≤ refusalNumber r) × (refusalNumber r ≤ 17)
+  met-number : (r : Refusal) (rows n : ℕ) → MetIn r rows n → (14 ≤ refusalNumber r) × (refusalNumber r ≤ 17)
   met-number r rows n (inl h) = location-number r (subst OutcomeAt (h .1) (location-at d k b rows))
   met-number r rows n (inr h) = in-range r DeviationNotFinite (h .1) (omega arith, omega arith)
 

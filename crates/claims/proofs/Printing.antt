@@ -9,11 +9,13 @@ use lib.ListN.{length, take, drop, replicate, length-replicate}
 use lib.Ieee.{Float}
 use Rattle.real.specs.Reals.{zero64}
 use Rattle.refusal.specs.declared.Refusal.{Refusal}
-use Rattle.refusal.specs.declared.Refusal.the-variants.{NoCoordinates, OddCoordinates, TooManyObservations, TooManyPredictors, PredictorLength, ResponseLength, TooFewObservations, OutputTooShort, UnknownNumber}
+use Rattle.refusal.specs.declared.Refusal.the-variants.{NoCoordinates, OddCoordinates, TooManyObservations, TooManyPredictors, PredictorLength, ResponseLength, TooFewObservations, OutputTooShort, DeviationNotFinite, UnknownNumber}
 use Rattle.refusal.specs.Numbers.{refusalNumber}
 use Rattle.kernel.specs.declared.GwrKernel.{GwrKernel}
 use Rattle.neighbours.specs.declared.GwrBandwidth.{GwrBandwidth}
 use Rattle.normal.specs.Data.{Data}
+use Rattle.local.specs.declared.Outcome.the-variants as outcome
+use Rattle.local.specs.Solve.{solveLocation}
 use Rattle.plan.specs.declared.Check.{Check}
 use Rattle.plan.specs.declared.Check.the-variants as check
 use Rattle.plan.specs.declared.GwrOptions.{GwrOptions}
@@ -42,7 +44,8 @@ use Rattle.claims.proofs.Cases.{never}
 use Rattle.claims.proofs.Judged.{Says, AllTell, Tells, judged, decides, tells, equal-tells, below-tells}
 use Rattle.claims.proofs.Accepting.{tests, input-says}
 use Rattle.claims.proofs.Deciding.{final, fit-refused, fit-passed}
-use Rattle.claims.proofs.Called.{OptionsSay, options-say, says-later, first-more, solve, met-number}
+use Rattle.claims.proofs.Called.{OptionsSay, options-say, says-later, first-more, location-number}
+use Rattle.claims.proofs.Solved.{OutcomeAt, location-at}
 
 -- ---- one list of conditions behind another
 
@@ -86,9 +89,14 @@ known-of choice.Unknown number kind h n = absurd (n h)
 
 -- ---- a fit that is not refused from the input
 
-ended : (d : Data) (k : GwrKernel) (b : GwrBandwidth) (a : FitAnswer) (rows m n room : ℕ) → FitAnswered a (solve d k b) rows m → Wrote a room → m ≡ n → FittedOrMet a × Printable a rows n
+ended : (d : Data) (k : GwrKernel) (b : GwrBandwidth) (a : FitAnswer) (rows m n room : ℕ) → FitAnswered a (λ (i : ℕ). solveLocation d k b i .outcome) rows m → Wrote a room → m ≡ n
+    → FittedOrMet a × Printable a rows n
 ended d k b (fit.Fitted v) rows m n room h w e = (tt, (h ∙ e, omega (arith, w .1)))
-ended d k b (fit.Failed r v) rows m n room h w e = (met-number d k b r rows m (h .0), tt)
+ended d k b (fit.Failed r v) rows m n room h w e = (met (h .0), tt)
+  where
+    met : ((rows < m) × (solveLocation d k b rows .outcome ≡ outcome.Refused r)) ⊎ ((rows ≡ m) × (r ≡ DeviationNotFinite)) → FittedOrMet (fit.Failed r v)
+    met (inl z) = location-number r (subst OutcomeAt (z .1) (location-at d k b rows))
+    met (inr z) = subst⁻¹ (λ (q : Refusal). (14 ≤ refusalNumber q) × (refusalNumber q ≤ 17)) (z .1) (omega arith, omega arith)
 ended d k b (fit.Rejected r) rows m n room h w e = absurd h
 
 -- ---- the program
