@@ -1,6 +1,6 @@
 #!/usr/bin/env bash
 # All tests: layout of the files, the tables of definitions and theorems (README) and of functions without an ensures (docs/DECISIONS.md), proofs with must-fail edits and
-# programs (rt ci), stored runs of gwrprint, and the Rust side (scripts/rust.sh: its tests, and the comparison with 000).
+# programs (rt ci), stored runs of gwrprint and every prefix of one, and the Rust side (scripts/rust.sh: its tests, and the comparison with 000).
 # The last line is 'N passed, M failed', and the exit status says whether M is 0.
 set -u
 cd "$(dirname "$0")/.." || exit 2
@@ -39,6 +39,8 @@ for job in tests/listings/*.job; do
     target/bin/gwrprint <"$job" 2>/dev/null | cmp -s - "${job%.job}.out"
     note $? "$job"
 done
+bash scripts/prefixes.sh target/bin/gwrprint tests/listings/gaussian-distance.job
+note $? "gwrprint on every prefix of a job (scripts/prefixes.sh)"
 
 run bash scripts/rust.sh
 verdict

@@ -72,7 +72,7 @@ placed-behind l row k h =
 in-range : (r s : Refusal) → r ≡ s → (14 ≤ refusalNumber s) × (refusalNumber s ≤ 17) → (14 ≤ refusalNumber r) × (refusalNumber r ≤ 17)
 in-range r s e h = subst⁻¹ (λ (z : Refusal). (14 ≤ refusalNumber z) × (refusalNumber z ≤ 17)) e h
 
-location-number : (r : Refusal) → AtLocation r → (14 ≤ refusalNumber r) × (refusalNumber r ≤ 17)
+pub location-number : (r : Refusal) → AtLocation r → (14 ≤ refusalNumber r) × (refusalNumber r ≤ 17)
 location-number r (inl e) = in-range r Singular e (omega arith, omega arith)
 location-number r (inr (inl e)) = in-range r InverseNotFinite e (omega arith, omega arith)
 location-number r (inr (inr e)) = in-range r CoefficientNotFinite e (omega arith, omega arith)
@@ -195,11 +195,11 @@ kind-says k kind bandwidth = go (eqb kind 0) (eqb kind 1) (eqb kind 2) (eqb kind
         let w : kind ≡ 3 → ⊥ = eqb-false _ _ h in
         omega arith
 
-abbrev OptionsSay : Choice → ℕ → ℕ → Type 0
+abbrev pub OptionsSay : Choice → ℕ → ℕ → Type 0
 OptionsSay (choice.Known o) number kind = (number ≤ 2) × (kind ≤ 3)
 OptionsSay choice.Unknown number kind = (2 < number) ⊎ (3 < kind)
 
-options-say : (number kind bandwidth : ℕ) → OptionsSay (optionsOf number kind bandwidth) number kind
+pub options-say : (number kind bandwidth : ℕ) → OptionsSay (optionsOf number kind bandwidth) number kind
 unfolding optionsOf
 options-say number kind bandwidth = go (kernelOf number) (kernel-says number)
   where
@@ -242,12 +242,12 @@ says-same check.Pass l m a h = none-same l m a h
 says-same (check.Refused r) l m a h = first-same l m r a h
 
 -- behind a condition that does not hold
-says-later : (k : Check) (c : Condition) (l : List Condition) → (c .holds → ⊥) → Says k l → Says k (c ∷ l)
+pub says-later : (k : Check) (c : Condition) (l : List Condition) → (c .holds → ⊥) → Says k l → Says k (c ∷ l)
 says-later check.Pass c l n h = (n, h)
 says-later (check.Refused r) c l n h = inr (n, h)
 
 -- before more conditions
-first-more : (l m : List Condition) (r : Refusal) → First-of l r → First-of (l ++ m) r
+pub first-more : (l m : List Condition) (r : Refusal) → First-of l r → First-of (l ++ m) r
 first-more [] m r h = absurd h
 first-more (c ∷ l) m r (inl h) = inl h
 first-more (c ∷ l) m r (inr h) = inr (h .0, first-more l m r (h .1))

@@ -1,36 +1,34 @@
 // Reads a job from standard input and prints its fit.
-ghost use Prim.Native.Nat.{_≤_, _<_};
+// No contract of the kit says which bytes `io::read_full` reads or that `io::write_all` writes those lent to it. What is proved is what lies between:
+// the first `len` bytes of `text` are `printed` of the first `got` of `input`, whichever these are (the contract of `listing::print_input`);
+// and where these are what the program asks for of a standard input, `readOf` of it, they are `printed` of all of it (`handed-on` of crates/listing/proofs/Reading.antt).
+// That they are is the kit's and the C library's, and executed: on the stored jobs and on every prefix of one.
+ghost use Prim.Native.Nat.{_≤_};
+ghost use lib.ListN.{length};
 use libc::STDIN_FILENO;
 use libc::STDOUT_FILENO;
-use listing::Head;
-use listing::Header;
 
 fn main() {
-    let mut head = [0u8; 40];
-    let got = io::read_full(STDIN_FILENO, &mut head);
-    let header = listing::read_header(&head[..got]);
-    match header {
-        Header::Refused(r) => print_refused(r.number()),
-        Header::Whole(h) => print_parts(h),
-    }
+    let mut input = [0u8; 41000];
+    let mut text = [0u8; 102400];
+    let got = read_input(&mut input);
+    let len = listing::print_input(&input[..got], &mut text);
+    io::write_all(STDOUT_FILENO, &text[..len]);
 }
 
-fn print_refused(number: u32)
-    requires { ⌜ number < 1000000 ⌝ }
+// Reads the header's 40 bytes, and then only as many as these ask for; none behind a header that is short or refused.
+fn read_input(input: &mut [u8]) -> usize
+    requires { ⌜ 41000 ≤ length (now input) ⌝ }
+    ensures { λ r. ⌜ r ≤ 41000 ⌝ }
 {
-    let mut line = [0u8; 16];
-    let n = text::put_refused(&mut line, number);
-    io::write_all(STDOUT_FILENO, &line[..n]);
+    let head = read_part(&mut input[..40]);
+    let end = 40 + listing::asked_behind(&input[..head]);
+    head + read_part(&mut input[40..end])
 }
 
-// Reads only as many bytes as the parts need.
-fn print_parts(h: Head)
-    requires { ⌜ (h .n ≤ 512) × (h .p ≤ 7) ⌝ }
+// Reads standard input until the part is full or the input ends.
+fn read_part(part: &mut [u8]) -> usize
+    ensures { λ r. ⌜ (r ≤ length (now (part .entry))) × (r ≤ length (now (part .exit))) ⌝ }
 {
-    let mut parts = [0u8; 40960];
-    let mut lines = [0u8; 102400];
-    let all = listing::parts_len(h.n, h.p);
-    let got = io::read_full(STDIN_FILENO, &mut parts[..all]);
-    let len = listing::print_job(h, &parts[..got], &mut lines);
-    io::write_all(STDOUT_FILENO, &lines[..len]);
+    io::read_full(STDIN_FILENO, part)
 }
