@@ -1,6 +1,6 @@
 -- The program `gwrprint`: which inputs are refused, and what is printed of the others.
 use mathlib.Core.Path.{_≡_, refl, sym, ap, subst, subst⁻¹, _∙_}
-use mathlib.Core.Bool.{Bool, true, false}
+use mathlib.Core.Bool.{true, false}
 use mathlib.Core.List.{List, [], _∷_, _++_}
 use mathlib.Core.Logic.{_⊎_, inl, inr}
 use Prim.Native.Nat.{ℕ, _+_, _*_, _/_, _%_, _≤_, _<_}
@@ -9,13 +9,13 @@ use lib.ListN.{length, take, drop, replicate, length-replicate}
 use lib.Ieee.{Float}
 use Rattle.real.specs.Reals.{zero64}
 use Rattle.refusal.specs.declared.Refusal.{Refusal}
-use Rattle.refusal.specs.declared.Refusal.the-variants.{NoCoordinates, OddCoordinates, TooManyObservations, TooManyPredictors, PredictorLength, ResponseLength, TooFewObservations, OutputTooShort, DeviationNotFinite, UnknownNumber}
+use Rattle.refusal.specs.declared.Refusal.the-variants.{NoCoordinates, OddCoordinates, TooManyObservations, TooManyPredictors, PredictorLength, ResponseLength, TooFewObservations, OutputTooShort, UnknownNumber}
 use Rattle.refusal.specs.Numbers.{refusalNumber}
-use Rattle.kernel.specs.declared.GwrKernel.{GwrKernel}
 use Rattle.neighbours.specs.declared.GwrBandwidth.{GwrBandwidth}
 use Rattle.normal.specs.Data.{Data}
-use Rattle.local.specs.declared.Outcome.the-variants as outcome
+use Rattle.local.specs.declared.Outcome.{Outcome}
 use Rattle.local.specs.Solve.{solveLocation}
+use Rattle.criterion.specs.declared.Summary.{Summary}
 use Rattle.plan.specs.declared.Check.{Check}
 use Rattle.plan.specs.declared.Check.the-variants as check
 use Rattle.plan.specs.declared.GwrOptions.{GwrOptions}
@@ -23,7 +23,6 @@ use Rattle.plan.specs.Checks.{judge}
 use Rattle.gwr.specs.declared.FitAnswer.{FitAnswer}
 use Rattle.gwr.specs.declared.FitAnswer.the-variants as fit
 use Rattle.gwr.specs.declared.Fit.{Fit}
-use Rattle.gwr.specs.Fit.{jobData, fitOf}
 use Rattle.wire.proofs.Decoding.{length-reals}
 use Rattle.text.specs.Listing.{refusedLine}
 use Rattle.calls.specs.declared.Choice.{Choice}
@@ -37,15 +36,14 @@ use Rattle.listing.specs.Printed.{printed}
 use Rattle.listing.specs.Numbers.{coordinatesIn, predictorsIn, responsesIn, rowsIn, fitText}
 use Rattle.listing.proofs.Texts.{printed-by}
 use Rattle.listing.proofs.Numbers.{Printable, whole-numbers}
-use Rattle.claims.specs.Conditions.{Condition, when, None, First-of, Decides, named, valueConditions, optionConditions, inputConditions}
-use Rattle.claims.specs.DemandOne.{FitAnswered}
-use Rattle.claims.specs.Printing.{optionsIn, printConditions, FittedOrMet, fitOn, PrintServed}
+use Rattle.claims.specs.Conditions.{Condition, when, None, Decides, named, valueConditions, optionConditions}
+use Rattle.claims.specs.Printing.{optionsIn, printConditions, fitOn}
+use Rattle.claims.specs.DemandOne.{FitAnswered, FitServed, JobServed, PrintServed}
 use Rattle.claims.proofs.Cases.{never}
-use Rattle.claims.proofs.Judged.{Says, AllTell, Tells, judged, decides, tells, equal-tells, below-tells}
+use Rattle.claims.proofs.Judged.{Says, Tells, judged, decides, tells, equal-tells, below-tells}
 use Rattle.claims.proofs.Accepting.{tests, input-says}
-use Rattle.claims.proofs.Deciding.{final, fit-refused, fit-passed}
-use Rattle.claims.proofs.Called.{OptionsSay, options-say, says-later, first-more, location-number}
-use Rattle.claims.proofs.Solved.{OutcomeAt, location-at}
+use Rattle.claims.proofs.Deciding.{fit-refused, fit-passed}
+use Rattle.claims.proofs.Called.{OptionsSay, options-say, says-later, first-more}
 
 -- ---- one list of conditions behind another
 
@@ -89,15 +87,21 @@ known-of choice.Unknown number kind h n = absurd (n h)
 
 -- ---- a fit that is not refused from the input
 
-ended : (d : Data) (k : GwrKernel) (b : GwrBandwidth) (a : FitAnswer) (rows m n room : ℕ) → FitAnswered a (λ (i : ℕ). solveLocation d k b i .outcome) rows m → Wrote a room → m ≡ n
-    → FittedOrMet a × Printable a rows n
-ended d k b (fit.Fitted v) rows m n room h w e = (tt, (h ∙ e, omega (arith, w .1)))
-ended d k b (fit.Failed r v) rows m n room h w e = (met (h .0), tt)
-  where
-    met : ((rows < m) × (solveLocation d k b rows .outcome ≡ outcome.Refused r)) ⊎ ((rows ≡ m) × (r ≡ DeviationNotFinite)) → FittedOrMet (fit.Failed r v)
-    met (inl z) = location-number r (subst OutcomeAt (z .1) (location-at d k b rows))
-    met (inr z) = subst⁻¹ (λ (q : Refusal). (14 ≤ refusalNumber q) × (refusalNumber q ≤ 17)) (z .1) (omega arith, omega arith)
-ended d k b (fit.Rejected r) rows m n room h w e = absurd h
+-- a fit that is served can be printed: fitted, it has all its rows
+module _ (solve : ℕ → Outcome) (b : GwrBandwidth) (searched rows m : ℕ) where
+  all-rows : (v : Summary) → FitAnswered (fit.Fitted v) solve b searched rows m → rows ≡ m
+  all-rows v (inl (l, r, e, h)) = let z : _≡_ {A = ℕ} 0 1 = cc in absurd (omega arith)
+  all-rows v (inr (l, h)) = l
+
+  printable : (a : FitAnswer) (n room : ℕ) → FitAnswered a solve b searched rows m → Wrote a room → m ≡ n → Printable a rows n
+  printable (fit.Fitted v) n room h w e = (all-rows v h ∙ e, omega (arith, w .1))
+  printable (fit.Failed r v) n room h w e = tt
+  printable (fit.Rejected r) n room h w e = tt
+
+served-printable : {d : Data} {o : GwrOptions} {b : GwrBandwidth} {searched : ℕ} {out : List Float} {f : Fit × List Float} (n room : ℕ)
+    → FitServed d o b searched out f → Wrote (f .0 .answer) room → d .n ≡ n → Printable (f .0 .answer) (f .0 .rows) n
+served-printable {d} {o} {b} {searched} {out} {f} n room s =
+    printable (λ (i : ℕ). solveLocation d (o .kernel) b i .outcome) b searched (f .0 .rows) (d .n) (f .0 .answer) n room (s .answered)
 
 -- ---- the program
 
@@ -213,18 +217,17 @@ module _ (input : List ℕ) where
         (subst⁻¹ (λ (g : Fit × List Float). Printable (g .0 .answer) (g .0 .rows) n) e tt)
         ∙ ap (λ (g : Fit × List Float). fitText (g .0 .answer) (rowsIn (g .1) (p + 4) n)) e
 
-    inner-passed : inner ≡ check.Pass → FittedOrMet (f .0 .answer) × (W ≡ fitText (f .0 .answer) (rowsIn (f .1) (p + 4) n))
+    inner-passed : inner ≡ check.Pass → JobServed C X Y p o Z × (W ≡ fitText (f .0 .answer) (rowsIn (f .1) (p + 4) n))
     inner-passed i =
         let s = fit-passed C X Y p o Z i in
-        let e = ended (jobData C X Y p) (o .kernel) (final C X Y p o Z) (f .0 .answer) (f .0 .rows) (length C / 2) n (length Z) (s .answered) (sound C X Y p o Z .answer) half in
-        (e .0, whole-numbers h parts o known some few narrow whole (s .long ∙ length-replicate (n * (p + 4)) zero64) (e .1))
+        (s, whole-numbers h parts o known some few narrow whole (s .long ∙ length-replicate (n * (p + 4)) zero64) (served-printable n (length Z) s (sound C X Y p o Z .answer) half))
 
   refused : (k : Check) → Says k fore → (r : Refusal) → said k inner ≡ check.Refused r → textAfter k W ≡ refusedLine (refusalNumber r)
   refused check.Pass pass r e = inner-refused pass r e
   refused (check.Refused q) s r e = ap (λ (z : Check). textAfter z W) e
 
   served : (k : Check) → Says k fore → printed input ≡ textAfter k W → said k inner ≡ check.Pass → PrintServed input
-  served check.Pass pass t e = let s = inner-passed pass e in record { answer = s .0; text = t ∙ s .1 }
+  served check.Pass pass t e = let s = inner-passed pass e in record { numbers = s .0; text = t ∙ s .1 }
   served (check.Refused q) s t e = let z : _≡_ {A = ℕ} 0 1 = cc in absurd (omega arith)
 
   pub printing-decides : Decides (printConditions input) (λ (r : Refusal). printed input ≡ refusedLine (refusalNumber r)) (PrintServed input)

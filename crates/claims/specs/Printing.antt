@@ -1,21 +1,17 @@
 -- The program `gwrprint`: which refusal is owed of which standard input, and what is printed of a fit. Definitions only.
-use Prim.Native.Nat.{ℕ, _+_, _*_, _≤_, _<_}
+use Prim.Native.Nat.{ℕ, _+_, _*_, _<_}
 use mathlib.Core.Path.{_≡_}
 use mathlib.Core.List.{List, _∷_}
 use mathlib.Core.Logic.{_⊎_}
 use lib.ListN.{length, drop}
 use lib.Ieee.{Float}
 use Rattle.refusal.specs.declared.Refusal.the-variants.{NoCoordinates, OddCoordinates, TooManyObservations, TooManyPredictors, PredictorLength, ResponseLength, TooFewObservations, ResponseNotFinite, CoordinateNotFinite, PredictorNotFinite, UnknownNumber}
-use Rattle.refusal.specs.Numbers.{refusalNumber}
 use Rattle.plan.specs.declared.GwrOptions.{GwrOptions}
-use Rattle.gwr.specs.declared.FitAnswer.{FitAnswer}
-use Rattle.gwr.specs.declared.FitAnswer.the-variants as fit
 use Rattle.gwr.specs.declared.Fit.{Fit}
 use Rattle.calls.specs.Options.{optionsOf}
 use Rattle.listing.specs.declared.Head.{Head}
 use Rattle.listing.specs.Headers.{headOf}
-use Rattle.listing.specs.Printed.{printed}
-use Rattle.listing.specs.Numbers.{coordinatesIn, predictorsIn, responsesIn, fitIn, rowsIn, fitText}
+use Rattle.listing.specs.Numbers.{coordinatesIn, predictorsIn, responsesIn, fitIn}
 use Rattle.claims.specs.Conditions.{Condition, when, SomeNotFinite, named, optionConditions}
 
 -- the options that a header names; where 18 is owed, any
@@ -44,19 +40,6 @@ printConditions input =
     ∷ when PredictorNotFinite (SomeNotFinite (predictorsIn h parts))
     ∷ optionConditions (coordinatesIn h parts) n (optionsIn h)
 
--- fitted, or a refusal met while solving
-abbrev pub FittedOrMet : FitAnswer → Type 0
-FittedOrMet (fit.Fitted s) = Unit {0}
-FittedOrMet (fit.Failed r s) = (14 ≤ refusalNumber r) × (refusalNumber r ≤ 17)
-FittedOrMet (fit.Rejected r) = ⊥
-
 -- the fit of the numbers that the input holds
 abbrev pub fitOn : List ℕ → Fit × List Float
 fitOn input = let h = headOf input in fitIn h (drop 40 input) (optionsIn h)
-
--- an input of which no condition holds: bytes left over are ignored
-pub record PrintServed (input : List ℕ) : Type 0 where
-  -- that fit is not refused from the input, so that what is said of one that is served holds of it
-  pub answer : FittedOrMet (fitOn input .0 .answer)
-  -- its bandwidth, AICc, solves and n rows, or the line of the refusal met while solving
-  pub text : let h = headOf input in printed input ≡ fitText (fitOn input .0 .answer) (rowsIn (fitOn input .1) (h .p + 4) (h .n))
