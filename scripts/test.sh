@@ -1,5 +1,5 @@
 #!/usr/bin/env bash
-# All tests: layout of the files, the table of definitions in README, proofs with must-fail edits and programs (rt ci), stored runs of gwrprint and every prefix of one, and the Rust side
+# All tests: layout of the files, the table of definitions in README, proofs with must-fail edits and programs (rt ci), stored runs of gwrprint, and the Rust side
 # (scripts/rust.sh: its tests, and the comparison with 000).
 # The last line is 'N passed, M failed', and the exit status says whether M is 0.
 set -u
