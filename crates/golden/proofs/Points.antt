@@ -4,8 +4,8 @@ use mathlib.Core.Bool.{Bool, true, false, cond}
 use lib.Dec.{lit<}
 use lib.Ieee.{Float, binary64, mul, lt, ofBits}
 use Rattle.golden.specs.declared.Bracket.{Bracket}
-use Rattle.golden.specs.Golden.{G, G2, startOf, goesLeft, aimOf, narrowOf, improvedOf}
-use Rattle.golden.specs.Points.{Arithmetic, lowerPoint, upperPoint, Section, sectionAt, nextSection, rounded, sectionOf, CommutativeRing, exact, residual, Residues, GoldenSection, NearGolden}
+use Rattle.golden.specs.Golden.{G, G2, startOf, goesLeft, aimOf, narrowOf}
+use Rattle.golden.specs.Points.{lowerPoint, upperPoint, sectionAt, nextSection, rounded, sectionOf, CommutativeRing, exact, residual, Residues, GoldenSection, NearGolden}
 use Rattle.golden.proofs.Round.{improved-is}
 
 -- ---- how far G and G2 are from the golden section

@@ -1,25 +1,26 @@
 -- What is printed depends on no byte behind those that are read.
 use mathlib.Core.Path.{_≡_, refl, sym, ap, _∙_}
 use mathlib.Core.Bool.{Bool, true, false}
-use mathlib.Core.List.{List, [], _∷_, _++_}
-use Prim.Native.Nat.{ℕ, zero, suc, _+_, _*_, _-_, _≤_}
+use mathlib.Core.List.{List, [], _∷_, _++_, append-nil}
+use Prim.Native.Nat.{ℕ, zero, suc, _+_, _*_, _-_, _≤_, _<_}
 use native.Mathlib.Nat.{mul-add, sub-zero, suc-sub-suc}
 use native.Mathlib.Omega.{arith}
 use borrow.Author.Tests.{ltb-true, ltb-false, lt-ltb, le-ltb}
 use lib.Dec.{ltb}
 use lib.ListN.{length, take, drop, replicate, length-take}
-use lib.Seq.{take-nil, take-take, take-add, take-at}
+use lib.Seq.{take-all, take-nil, take-take, take-add, take-at, drop-at}
 use Rattle.wire.specs.Wire.{numberOf, loadOf, placed}
 use Rattle.text.specs.Listing.{Written}
 use Rattle.refusal.specs.declared.Refusal.{Refusal}
 use Rattle.plan.specs.Checks.{judge}
-use Rattle.calls.specs.Calls.{After, fitBytes}
+use Rattle.calls.specs.Calls.{After}
 use Rattle.listing.specs.declared.Head.{Head}
 use Rattle.listing.specs.declared.Header.{Header}
 use Rattle.listing.specs.declared.Header.the-variants.{Whole, Refused}
 use Rattle.listing.specs.Headers.{headerTests, headerOf, partsLen}
 use Rattle.listing.specs.Jobs.{placesEnd, predictorsEnd, responsesEnd, cutTests, answerText, fitOfParts, wholeText, textAfter, jobText}
 use Rattle.listing.specs.Printed.{textOf, printed, asked, readOf}
+use Rattle.listing.proofs.Texts.{header-short}
 
 -- ---- the first m of a list
 
@@ -90,3 +91,21 @@ unfolding placed
 handed-on input d₀ d end w =
     let line = printed (readOf input) in
     ap (take end) (w .is) ∙ take-at line (drop (0 + length line) d₀) end (omega (arith, w .stop)) ∙ printed-read input
+
+-- ---- no byte more
+
+-- bytes that are too few for a header ask for none
+pub asked-none : (s : List ℕ) → length s < 40 → asked (headerOf s) ≡ 0
+asked-none s h = sym (ap (λ (k : Header). asked k) (header-short s h .is))
+
+pub read-short : (s : List ℕ) → length s < 40 → readOf s ≡ s
+read-short s h =
+    let e : take 40 s ≡ s = take-all 40 s (omega arith) in
+    ap (λ (k : ℕ). take 40 s ++ take k (drop 40 s)) (ap (λ (l : List ℕ). asked (headerOf l)) e ∙ asked-none s h) ∙ append-nil (take 40 s) ∙ e
+
+-- a header's bytes, and no more than these ask for
+pub read-long : (a b : List ℕ) → length a ≡ 40 → length b ≤ asked (headerOf a) → readOf (a ++ b) ≡ a ++ b
+read-long a b h m =
+    ap (λ (l : List ℕ). l ++ take (asked (headerOf l)) (drop 40 (a ++ b))) (take-at a b 40 h)
+    ∙ ap (λ (l : List ℕ). a ++ take (asked (headerOf a)) l) (drop-at a b 40 h)
+    ∙ ap (λ (l : List ℕ). a ++ l) (take-all (asked (headerOf a)) b m)

@@ -9,7 +9,7 @@ use native.Mathlib.Omega.{arith}
 use lib.Dec.{T, lit<, lit≤, leb}
 use lib.IntN.{pos}
 use lib.ListN.{length}
-use lib.Ieee.{Float, nan, inf, fin, binary64, up, down, mul, div, lt, le, fits, isNan, ofBits, ofInt}
+use lib.Ieee.{Float, nan, inf, fin, binary64, up, mul, div, lt, le, fits, isNan, ofBits, ofInt}
 use lib.Ieee.Back.{round-whole}
 use lib.Ieee.Exact.{HasValue}
 use lib.Ieee.Fits.{cond-fits, div-fits, mul-fits, ofInt-fits, down-pos, and-l, and-r}
