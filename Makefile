@@ -32,8 +32,7 @@ instructions:
 	@bash scripts/instructions.sh
 
 store:
-	@$(CARGO) oracle --bin store -- 360 >../crates/replay/stdin.new
-	@mv crates/replay/stdin.new crates/replay/stdin
+	@$(CARGO) oracle --bin store
 
 fuzz:
 	@bash scripts/fuzz.sh $(SECONDS)
