@@ -8,6 +8,7 @@
 
 pub mod generate;
 pub mod jobs;
+pub mod listings;
 pub mod stored;
 #[cfg_attr(not(gwr_source), allow(dead_code))]
 mod support;
