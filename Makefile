@@ -20,7 +20,7 @@ fit:
 
 listing:
 	@mkdir -p target
-	@bash scripts/turn.sh rt check gwrprint >target/fit.log 2>&1 || { cat target/fit.log; exit 1; }
+	@bash scripts/turn.sh sh -c 'rt check gwrprint >target/fit.log 2>&1' || { cat target/fit.log; exit 1; }
 	@target/bin/gwrprint <crates/gwrprint/stdin
 
 compare:
