@@ -98,7 +98,7 @@ pub fn link(name: &str) -> PathBuf {
     };
     if old() {
         let turn = turns::take(root)
-            .unwrap_or_else(|e| stop(&format!("no turn to run rt: crates.txt: {e}")));
+            .unwrap_or_else(|e| stop(&format!("no turn to run rt (scripts/turn.sh): {e}")));
         // Another may have made it meanwhile.
         if old() {
             build(root, name);

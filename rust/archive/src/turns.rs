@@ -5,18 +5,18 @@ use std::fs::{self, File};
 use std::path::Path;
 use std::{env, io};
 
-/// Names the tree whose lock is held by what runs this.
+/// Names the tree whose lock is held by what runs this, which would never end.
 const HELD: &str = "ZESCOLUMBA_TURN";
 
 /// Waits until no other `rt` runs in this tree. Others wait while the answer lives.
-pub fn take(root: &Path) -> io::Result<Option<File>> {
+pub fn take(root: &Path) -> io::Result<File> {
     let held = env::var_os(HELD).and_then(|tree| fs::canonicalize(tree).ok());
     if held.is_some() && held == fs::canonicalize(root).ok() {
-        return Ok(None);
+        return Err(io::Error::other("what runs this has its turn already"));
     }
     let file = File::open(root.join("crates.txt"))?;
     file.lock()?;
-    Ok(Some(file))
+    Ok(file)
 }
 
 #[cfg(test)]
@@ -31,16 +31,15 @@ mod tests {
         let file = root.join("crates.txt");
         fs::write(&file, "").unwrap();
         // As scripts/turn.sh locks, but without waiting.
-        let script = |then: &str| {
+        let script = || {
             let mut flock = Command::new("flock");
-            flock.arg("--nonblock").arg(&file);
-            flock.args(["sh", "-c", then]).status().unwrap().success()
+            flock.arg("--nonblock").arg(&file).arg("true");
+            flock.status().unwrap().success()
         };
         let turn = take(&root).unwrap();
-        assert!(turn.is_some());
-        assert!(!script("true"));
+        assert!(!script());
         drop(turn);
-        assert!(script("true"));
+        assert!(script());
         let other = File::open(&file).unwrap();
         other.lock().unwrap();
         let (root_of, waited) = (root.clone(), std::time::Instant::now());

@@ -3,8 +3,9 @@
  * Every number crosses as 8 bytes, little-endian: an f64 by its bits, a count as it is. Nothing is kept between calls, no memory
  * is taken, and calls from several threads do not meet. Slices may be empty; a slice's pointer is then not read.
  *
- * What a call writes must be its own while it runs: output and summary overlap neither each other nor the inputs, and no other thread
- * reads or writes them. The proofs take this from the caller; nothing in the call checks it. Inputs may overlap each other. */
+ * What a call writes is lent to it alone: output and summary overlap neither each other nor the inputs, and while it runs no other
+ * thread touches them or writes the inputs. The proofs take this as given, and the call does not check it. Inputs may overlap each
+ * other. */
 #ifndef ZESCOLUMBA_H
 #define ZESCOLUMBA_H
 
