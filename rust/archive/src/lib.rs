@@ -1,6 +1,8 @@
 //! For build scripts: links target/staticlib/libNAME.a of the repository. Where it is missing, or older than the sources of the
 //! crates in it, `rt staticlib NAME` proves them and writes it.
 
+mod turns;
+
 use std::path::{Path, PathBuf};
 use std::process::{self, Command};
 use std::time::SystemTime;
@@ -90,9 +92,18 @@ pub fn link(name: &str) -> PathBuf {
     println!("cargo::rerun-if-changed=build.rs");
     println!("cargo::rerun-if-changed={}", archive.display());
     let newest = newest_source(root, name);
-    let built = fs::metadata(&archive).and_then(|m| m.modified()).ok();
-    if built.is_none() || built < newest {
-        build(root, name);
+    let old = || {
+        let built = fs::metadata(&archive).and_then(|m| m.modified()).ok();
+        built.is_none() || built < newest
+    };
+    if old() {
+        let turn = turns::take(root)
+            .unwrap_or_else(|e| stop(&format!("no turn to run rt (scripts/turn.sh): {e}")));
+        // Another may have made it meanwhile.
+        if old() {
+            build(root, name);
+        }
+        drop(turn);
     }
     if !archive.is_file() {
         stop(&format!(
