@@ -1,5 +1,6 @@
 //! For build scripts: links target/staticlib/libNAME.a of the repository. Where it is missing, or older than the sources of the
-//! crates in it, `rt staticlib NAME` proves them and writes it.
+//! crates in it, `scripts/prove.sh NAME` proves them and writes it, in some minutes. Cargo shows nothing of what a build script
+//! says until it ends, so whoever wants to see the proofs go by runs that before cargo, as `make fit` does.
 
 use std::path::{Path, PathBuf};
 use std::process::{self, Command};
@@ -59,20 +60,22 @@ fn newest_source(root: &Path, name: &str) -> Option<SystemTime> {
 
 /// Proves a crate and writes its archive.
 fn build(root: &Path, name: &str) {
-    let made = Command::new("rt")
-        .args(["staticlib", name])
+    let made = Command::new("bash")
+        .args(["scripts/prove.sh", name])
         .current_dir(root)
         .output();
     match made {
         Err(_) => stop(&format!(
-            "target/staticlib/lib{name}.a is missing or old, and the Rattle toolchain that makes it is not there: no command rt"
+            "target/staticlib/lib{name}.a is missing or old, and there is no command bash for scripts/prove.sh, which makes it"
         )),
         Ok(out) if !out.status.success() => {
-            for line in String::from_utf8_lossy(&out.stdout).lines().rev().take(5) {
+            let said = String::from_utf8_lossy(&out.stderr);
+            let said: Vec<&str> = said.lines().collect();
+            for line in &said[said.len().saturating_sub(5)..] {
                 println!("cargo::warning={line}");
             }
             stop(&format!(
-                "rt staticlib {name} failed; run it in the repository to see why"
+                "scripts/prove.sh {name} failed; run it in the repository to see why"
             ));
         }
         Ok(_) => {}
@@ -96,7 +99,7 @@ pub fn link(name: &str) -> PathBuf {
     }
     if !archive.is_file() {
         stop(&format!(
-            "rt staticlib {name} wrote no target/staticlib/lib{name}.a"
+            "scripts/prove.sh {name} wrote no target/staticlib/lib{name}.a"
         ));
     }
     println!("cargo::rustc-link-search=native={}", folder.display());
