@@ -17,14 +17,15 @@ stop() { echo "prove.sh: $*" >&2; exit 1; }
 made_of() {
     tac crates.txt | awk -F '[: ]+' -v name="$1" '
         BEGIN { wanted[name] }
-        $1 in wanted { print $1; for (i = 2; i <= NF; i++) wanted[$i] }' | tac
+        $1 in wanted { print $1; for (i = 2; i <= NF; i++) wanted[$i] }' | tac | paste -sd ' '
 }
 
 depends() { sed -n "s/^$1: *//p" crates.txt; }
 
 # sources 'CRATE..' FILTER..: of their sources, folders included, those that the filter of find takes.
 sources() {
-    local list=($1)
+    local list
+    read -ra list <<<"$1"
     shift
     find crates.txt "${list[@]/#/crates/}" \( -name crates.txt -o -path '*/src*' -o -path '*/specs*' -o -path '*/proofs*' \) "$@"
 }
@@ -35,12 +36,12 @@ older() { [ ! -f "$1" ] || [ -n "$(sources "$2" -newer "$1" -print -quit)" ]; }
 # How many crates are to be proved, as far as the times of their files tell.
 count_unproved() {
     local c d
-    local -A unproved=([$name]=1)
+    local -A due=([$name]=1)
     for c in $crates; do
-        if older "target/stamp/$c" "$c"; then unproved[$c]=1; fi
-        for d in $(depends "$c"); do [ -z "${unproved[$d]-}" ] || unproved[$c]=1; done
+        if older "target/stamp/$c" "$c"; then due[$c]=1; fi
+        for d in $(depends "$c"); do [ -z "${due[$d]-}" ] || due[$c]=1; done
     done
-    echo "${#unproved[@]}"
+    echo "${#due[@]}"
 }
 
 announce() { # announce UNPROVED
@@ -67,6 +68,12 @@ start() {
     (cd "$room" && { rt check "$1" >said 2>&1; echo $? >status; }) </dev/null &
     set +m
     began[$1]=$SECONDS
+}
+
+# Ends what was started and still runs.
+end_started() {
+    local group
+    for group in $(jobs -p); do kill -- "-$group" 2>/dev/null || true; done
 }
 
 # ended CRATE STATUS LOG
@@ -104,7 +111,7 @@ prove_others() {
     rm -rf "$rooms"
 }
 
-crates=$(echo $(made_of "$name"))
+crates=$(made_of "$name")
 [ -n "$crates" ] || stop "crates.txt has no crate $name"
 made=target/staticlib/lib$name.a last='rt staticlib'
 if [ -f "crates/$name/src/main.rt" ]; then made=target/bin/$name last='rt check'; fi
@@ -116,7 +123,7 @@ processors=$(nproc 2>/dev/null || echo 1)
 jobs=${RT_JOBS:-$((processors < 4 ? processors : 4))}
 time=$(sources "$crates" -printf '%T@\n' | sort -n | tail -n 1)
 declare -A proved=() began=()
-trap 'for p in $(jobs -p); do kill -- "-$p" 2>/dev/null || true; done' EXIT
+trap end_started EXIT
 trap 'exit 130' INT TERM
 unproved=$(count_unproved)
 announce "$unproved"
