@@ -65,7 +65,7 @@ start() {
     ln -s "$PWD/target/rlib" "$PWD/target/stamp" "$room/target/"
     # A process group of its own, so that it can be ended whole.
     set -m
-    (cd "$room" && { rt check "$1" >said 2>&1; echo $? >status; }) </dev/null &
+    (cd "$room" && if rt check "$1" >said 2>&1; then echo 0 >status; else echo $? >status; fi) </dev/null &
     set +m
     began[$1]=$SECONDS
 }
@@ -79,7 +79,7 @@ end_started() {
 # ended CRATE STATUS LOG
 ended() {
     proved[$1]=1
-    if [ "$2" -ne 0 ]; then
+    if [ "$2" != 0 ]; then
         sed -E "s#$rooms/($1/)?##g" "$3" >&2
         stop "$1 is NOT PROVED, and $made is not made. What rt said stands above."
     elif ! grep -q "^rt: $1 proved (unchanged" "$3"; then
@@ -89,8 +89,7 @@ ended() {
 
 # Proves all but the one asked for.
 prove_others() {
-    local c left waiting running=''
-    waiting=${crates% *}
+    local c left over waiting=${crates% *} running=''
     rm -rf "$rooms"
     mkdir -p "$rooms/crates" target/rlib target/stamp
     cp crates.txt "$rooms/"
@@ -101,11 +100,13 @@ prove_others() {
             if [ "$(wc -w <<<"$running")" -ge "$jobs" ] || waits "$c"; then left+=" $c"; else start "$c"; running+=" $c"; fi
         done
         [ -n "$running" ] || stop "crates.txt lists a crate above one that it depends on:$left"
-        waiting=$left left=''
-        wait -n || true
+        waiting=$left left='' over=0
+        wait -n || over=$?
         for c in $running; do
-            if [ -f "$rooms/$c/status" ]; then ended "$c" "$(cat "$rooms/$c/status")" "$rooms/$c/said"; else left+=" $c"; fi
+            if [ -s "$rooms/$c/status" ]; then ended "$c" "$(cat "$rooms/$c/status")" "$rooms/$c/said"; else left+=" $c"; fi
         done
+        # 127: nothing is left to wait for.
+        [ "$over" -ne 127 ] || [ "$left" != "$running" ] || stop "ended from outside while proving$running"
         running=$left
     done
     rm -rf "$rooms"
