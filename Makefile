@@ -1,5 +1,6 @@
 # make test: every proof, must-fail edit, program, stored run, Rust test and the comparison with 000.
 # make fit: the example table fitted by the Rust command. make listing: the printing program on a small job.
+# Before the first of them the crates are proved, in some minutes; what is said of that goes to standard error.
 # make instructions: instructions of fits, counted.
 # make compare N=100000: the comparison with that many random jobs. make store: stored answers of 000 anew, for crates/replay.
 # make listings: the jobs of tests/listings/jobs.txt as files anew, with what 000 has gwrprint print of them.
@@ -16,11 +17,11 @@ rust:
 	@bash scripts/rust.sh
 
 fit:
+	@bash scripts/prove.sh gateway
 	@$(CARGO) gateway --bin gwr -- ../examples/pantries.csv $(ARGS)
 
 listing:
-	@mkdir -p target
-	@bash scripts/turn.sh sh -c 'rt check gwrprint >target/fit.log 2>&1' || { cat target/fit.log; exit 1; }
+	@bash scripts/prove.sh gwrprint
 	@target/bin/gwrprint <crates/gwrprint/stdin
 
 compare:

@@ -3,8 +3,8 @@
 #
 # Two `rt` commands at once in one tree spoil each other's stamps: both write target/rlib, target/stamp and target/log, so that a stamp
 # of one can stand for a library that the other has just replaced, and `rt ci` begins by removing all of target/. So whatever runs `rt`
-# here takes a lock on crates.txt first (a file in target/ would go with it): Makefile and scripts by this script, the build scripts of
-# rust/ by rust/archive/src/turns.rs. An `rt` run by hand takes its turn as `bash scripts/turn.sh rt check NAME`.
+# here takes a lock on crates.txt first (a file in target/ would go with it): Makefile, scripts and the build scripts of rust/, all by
+# this script. An `rt` run by hand takes its turn as `bash scripts/turn.sh rt check NAME`.
 # The command must be an `rt` and not what takes turns itself, as make and cargo do: that would wait for itself. ZESCOLUMBA_TURN
 # names the tree whose lock is held, so that it is refused instead.
 set -eu
