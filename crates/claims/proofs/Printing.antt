@@ -1,6 +1,6 @@
 -- The program `gwrprint`: which inputs are refused, and what is printed of the others.
 use mathlib.Core.Path.{_≡_, refl, sym, ap, subst, subst⁻¹, _∙_}
-use mathlib.Core.Bool.{Bool, true, false}
+use mathlib.Core.Bool.{true, false}
 use mathlib.Core.List.{List, [], _∷_, _++_}
 use mathlib.Core.Logic.{_⊎_, inl, inr}
 use Prim.Native.Nat.{ℕ, _+_, _*_, _/_, _%_, _≤_, _<_}
@@ -23,7 +23,7 @@ use Rattle.plan.specs.Checks.{judge}
 use Rattle.gwr.specs.declared.FitAnswer.{FitAnswer}
 use Rattle.gwr.specs.declared.FitAnswer.the-variants as fit
 use Rattle.gwr.specs.declared.Fit.{Fit}
-use Rattle.gwr.specs.Fit.{jobData, fitOf}
+use Rattle.gwr.specs.Fit.{jobData}
 use Rattle.wire.proofs.Decoding.{length-reals}
 use Rattle.text.specs.Listing.{refusedLine}
 use Rattle.calls.specs.declared.Choice.{Choice}
@@ -37,11 +37,11 @@ use Rattle.listing.specs.Printed.{printed}
 use Rattle.listing.specs.Numbers.{coordinatesIn, predictorsIn, responsesIn, rowsIn, fitText}
 use Rattle.listing.proofs.Texts.{printed-by}
 use Rattle.listing.proofs.Numbers.{Printable, whole-numbers}
-use Rattle.claims.specs.Conditions.{Condition, when, None, First-of, Decides, named, valueConditions, optionConditions, inputConditions}
+use Rattle.claims.specs.Conditions.{Condition, when, None, Decides, named, valueConditions, optionConditions}
 use Rattle.claims.specs.DemandOne.{FitAnswered}
 use Rattle.claims.specs.Printing.{optionsIn, printConditions, FittedOrMet, fitOn, PrintServed}
 use Rattle.claims.proofs.Cases.{never}
-use Rattle.claims.proofs.Judged.{Says, AllTell, Tells, judged, decides, tells, equal-tells, below-tells}
+use Rattle.claims.proofs.Judged.{Says, Tells, judged, decides, tells, equal-tells, below-tells}
 use Rattle.claims.proofs.Accepting.{tests, input-says}
 use Rattle.claims.proofs.Deciding.{final, fit-refused, fit-passed}
 use Rattle.claims.proofs.Called.{OptionsSay, options-say, says-later, first-more, location-number}

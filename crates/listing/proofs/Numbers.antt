@@ -8,17 +8,14 @@ use borrow.Author.Tests.{eq-eqb, ne-eqb, le-ltb}
 use lib.ListN.{length, take, drop, getD, replicate, length-drop, length-replicate}
 use lib.Seq.{length-take-le, take-all, take-at, drop-at, drop-drop, take-suc, getD-drop}
 use lib.Ieee.{Float, nan}
-use Rattle.wire.specs.Wire.{bitsOf, realOf, lowBytes, bytesOf, numberOf, loadOf, placed, reals, realBytes}
-use Rattle.real.specs.Reals.{zero64}
+use Rattle.wire.specs.Wire.{bitsOf, lowBytes, bytesOf, numberOf, loadOf, placed, reals, realBytes}
 use Rattle.wire.proofs.Numbers.{length-bytesOf}
-use Rattle.text.specs.Listing.{digitOf, hexIn, hexDigits, bitsText, bitsTexts, rowLine, rowLines, summaryLine, listing, loads, rowsOf}
-use Rattle.refusal.specs.Numbers.{refusalNumber}
+use Rattle.text.specs.Listing.{hexIn, hexDigits, bitsText, bitsTexts, rowLine, rowLines, summaryLine, listing, loads, rowsOf}
 use Rattle.criterion.specs.declared.Summary.{Summary}
 use Rattle.plan.specs.declared.GwrOptions.{GwrOptions}
 use Rattle.plan.specs.declared.Check.{Check}
 use Rattle.plan.specs.declared.Check.the-variants as check
 use Rattle.plan.specs.Checks.{judge}
-use Rattle.gwr.specs.Fit.{fitOf}
 use Rattle.gwr.specs.declared.FitAnswer.{FitAnswer}
 use Rattle.gwr.specs.declared.FitAnswer.the-variants.{Fitted, Failed, Rejected}
 use Rattle.calls.specs.declared.Choice.{Choice}

@@ -13,7 +13,7 @@ use Rattle.wire.specs.Wire.{numberOf, loadOf, placed}
 use Rattle.text.specs.Listing.{Written}
 use Rattle.refusal.specs.declared.Refusal.{Refusal}
 use Rattle.plan.specs.Checks.{judge}
-use Rattle.calls.specs.Calls.{After, fitBytes}
+use Rattle.calls.specs.Calls.{After}
 use Rattle.listing.specs.declared.Head.{Head}
 use Rattle.listing.specs.declared.Header.{Header}
 use Rattle.listing.specs.declared.Header.the-variants.{Whole, Refused}
