@@ -14,7 +14,7 @@ abbrev pub textOf : Header → List ℕ → List ℕ
 textOf (Whole h) parts = jobText h parts
 textOf (Refused r) parts = refusedLine (refusalNumber r)
 
--- 01: `gwrprint` reads a header of five numbers, 8 bytes each, then the parts
+-- 01: `gwrprint` reads a header of five numbers, 8 bytes each, then the parts; bytes left over are ignored
 unfoldable pub printed : List ℕ → List ℕ
 printed input = textOf (headerOf input) (drop 40 input)
 

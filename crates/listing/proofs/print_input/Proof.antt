@@ -1,7 +1,6 @@
 -- `listing::print_input` meets its contract.
 use borrow.Author.Needs.{needs}
-use native.Mathlib.Omega.{arith}
-use mathlib.Core.Path.{sym, ap, _∙_}
+use mathlib.Core.Path.{sym, _∙_}
 use Rattle.listing.proofs.Texts.{line-is, number-small, head-sized, head-long, refused-input, whole-input}
 use Rattle.listing.proofs.print_input.Statement.{statement}
 use Rattle.listing.proofs.print_input.Tie as tie
