@@ -2,10 +2,17 @@
 # prove.sh NAME: has target/staticlib/libNAME.a at hand, or target/bin/NAME of a program. Where it is there, and no source of the crates
 # in it is newer, this ends at once; else what is new of them is proved. All that it says goes to standard error: first what is done and
 # how long that takes, then a line for each crate.
+#
+# `rt staticlib` proves crates one after the other, and `rt check` level by level. Here make has each proved as soon as those that it
+# depends on are, as many at once as there are processors (or RT_JOBS). rt commands that run at once in one folder spoil each other's
+# notes in target/log, so each runs in a room of its own: links to the sources, to the proved libraries and to their stamps, and its own
+# log. The last command is rt's in the repository itself, which holds every stamp against the sources again.
 set -eu
 cd "$(dirname "$0")/.."
 name=${1:?the name of a crate}
-log=target/$name.log
+rooms=target/rooms
+made=target/staticlib/lib$name.a last='rt staticlib'
+[ ! -f "crates/$name/src/main.rt" ] || made=target/bin/$name last='rt check'
 
 stop() { echo "prove.sh: $*" >&2; exit 1; }
 
@@ -16,43 +23,59 @@ made_of() {
         $1 in wanted { print $1; for (i = 2; i <= NF; i++) wanted[$i] }' | tac
 }
 
-# Of what rt says, a line for each crate, with a count; a crate that was proved before counts silently.
-progress() {
-    awk -v all="${#crates[@]}" '
-        /^waiting: / { print; fflush() }
-        /^rt: [a-z_]+ proved \(/ { n++ }
-        /^rt: [a-z_]+ proved \([0-9]+ s\)/ { sub(/\(/, "", $4); printf "[%d/%d] %s proved, %s s\n", n, all, $2, $4; fflush() }' >&2
+# older FILE CRATE..: whether it is missing, or older than a source of these.
+older() {
+    local file=$1
+    shift
+    [ ! -f "$file" ] || [ -n "$(find crates.txt "${@/#/crates/}" ! -path '*/must-fail*' -newer "$file" -print -quit)" ]
 }
 
-# run WORDS..: an rt command, in its turn; shows all that it said where it fails.
-run() {
-    local status
-    bash scripts/turn.sh rt "$@" 2>&1 | tee "$log" | progress
-    status=${PIPESTATUS[0]}
-    [ "$status" -eq 0 ] || { cat "$log" >&2; stop "$made is not made. What rt said stands above."; }
+# said CRATE STATUS SECONDS LOG: a line of it, with a count; all that rt said where it failed. One that was proved before counts silently.
+said() {
+    echo "$1" >>"$rooms/done"
+    [ "$2" -eq 0 ] || { sed "s#$PWD/##g" "$4" >&2; stop "$1 is NOT PROVED, and $made is not made. What rt said stands above."; }
+    grep -q "^rt: $1 proved (unchanged" "$4" || echo "[$(grep -nx "$1" "$rooms/done" | cut -d: -f1)/${#crates[@]}] $1 proved, $3 s" >&2
 }
 
 mapfile -t crates < <(made_of "$name")
 [ "${#crates[@]}" -gt 0 ] || stop "crates.txt has no crate $name"
-made=target/staticlib/lib$name.a
-[ ! -f "crates/$name/src/main.rt" ] || made=target/bin/$name
-newer=$(find crates.txt "${crates[@]/#/crates/}" ! -path '*/must-fail*' -newer "$made" -print -quit 2>/dev/null || echo missing)
-[ -n "$newer" ] || exit 0
 
+# prove.sh NAME CRATE: one of them, in its room.
+if [ $# -gt 1 ]; then
+    room=$rooms/$2 status=0
+    mkdir -p "$room/target"
+    ln -s "$PWD/crates" "$PWD/crates.txt" "$room/"
+    ln -s "$PWD/target/rlib" "$PWD/target/stamp" "$room/target/"
+    (cd "$room" && rt check "$2") >"$room/said" 2>&1 || status=$?
+    said "$2" "$status" "$SECONDS" "$room/said"
+    exit
+fi
+
+older "$made" "${crates[@]}" || exit 0
 command -v rt >/dev/null || stop "$made is missing or old, and the Rattle toolchain that makes it is not there: no command rt"
+# From here on in its turn.
+[ "${ZESCOLUMBA_TURN:-}" = "$(pwd -P)" ] || exec bash scripts/turn.sh bash scripts/prove.sh "$name"
+older "$made" "${crates[@]}" || exit 0
 began=$(date +%s.%N)
 processors=$(nproc 2>/dev/null || echo 1)
-minutes=$(((${#crates[@]} * (processors > 1 ? 9 : 13) + 59) / 60))
-echo "Proving what is new of the ${#crates[@]} crates in $made: all of them take about $minutes minutes here, and only once." >&2
-mkdir -p target
-if [ "$made" = "target/bin/$name" ]; then
-    run check "$name"
-else
-    # `rt check` proves as many crates at once as there are processors, `rt staticlib` one after the other: so it gets the last alone.
-    run check "${crates[@]:0:${#crates[@]}-1}"
-    last=$SECONDS
-    run staticlib "$name"
-    echo "[${#crates[@]}/${#crates[@]}] $name proved, $((SECONDS - last)) s" >&2
-fi
+jobs=${RT_JOBS:-$((processors < 4 ? processors : 4))}
+rm -rf "$rooms"
+mkdir -p "$rooms" target/rlib target/stamp
+others=("${crates[@]:0:${#crates[@]}-1}")
+for crate in "${others[@]}"; do
+    if older "target/stamp/$crate" "$crate"; then
+        minutes=$(((${#crates[@]} * (jobs > 1 ? 9 : 14) + 59) / 60))
+        echo "Proving what is new of the ${#crates[@]} crates in $made, $jobs at a time: all of them take about $minutes minutes, once." >&2
+        awk -F '[: ]+' -v name="$name" '/^[a-z]/ { print ".PHONY: " $1 "\n" $0 "\n" $1 ":\n\t@bash scripts/prove.sh " name " " $1 }' crates.txt |
+            sed -E '/^[a-z_]+:/s/ (io|libc|check|os)\b//g' >"$rooms/Makefile"
+        env -u MAKEFLAGS -u MAKELEVEL make --no-print-directory --silent --jobs="$jobs" --file="$rooms/Makefile" "${others[@]}" >&2 || exit 1
+        break
+    fi
+done
+SECONDS=0 status=0
+$last "$name" >"$rooms/said" 2>&1 || status=$?
+printf '%s\n' "${others[@]}" >"$rooms/done"
+said "$name" "$status" "$SECONDS" "$rooms/said"
+rm -rf "$rooms"
 # A source that was changed meanwhile is newer than what was made.
 touch -d "@$began" "$made"

@@ -5,8 +5,8 @@
 # of one can stand for a library that the other has just replaced, and `rt ci` begins by removing all of target/. So whatever runs `rt`
 # here takes a lock on crates.txt first (a file in target/ would go with it): Makefile, scripts and the build scripts of rust/, all by
 # this script. An `rt` run by hand takes its turn as `bash scripts/turn.sh rt check NAME`.
-# The command must be an `rt` and not what takes turns itself, as make and cargo do: that would wait for itself. ZESCOLUMBA_TURN
-# names the tree whose lock is held, so that it is refused instead.
+# The command must not be one that takes turns itself, as those of make and cargo are: that would wait for itself. ZESCOLUMBA_TURN names
+# the tree whose lock is held, so that it is refused instead.
 set -eu
 root=$(cd "$(dirname "$0")/.." && pwd -P)
 [ "${ZESCOLUMBA_TURN:-}" != "$root" ] || { echo "turn.sh: what runs this has its turn already" >&2; exit 2; }
