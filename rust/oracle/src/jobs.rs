@@ -346,7 +346,7 @@ fn corners(t: &mut impl Take) {
     let mut g = Rng::new(0xC0EE5);
     for choice in 0..12 {
         let (kernel, kind) = (choice % 3, choice / 3);
-        // A leverage that overflows leaves a NaN in AICc: large predictors.
+        // Large predictors, whose leverages may overflow.
         for scale in [1e70, 1e75, 1e77, 1e100, 1e150, 1e153] {
             for _ in 0..6 {
                 let mut job = random(&mut g, 5, 3, kernel, kind);

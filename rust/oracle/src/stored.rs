@@ -73,6 +73,11 @@ pub fn kinds(group: Group, job: &Job, answer: &Answer) -> Vec<String> {
             "{name} by kernel {kernel}, kind {kind}, answered {number}"
         ));
         all.push(format!("{name} with {p} predictors, answered {number}"));
+        if number == 0 {
+            let aicc = answer.summary[8..16].try_into().expect("a summary of 24");
+            let aicc = sort(u64::from_le_bytes(aicc));
+            all.push(format!("{name} with an AICc that is {aicc}"));
+        }
     }
     all
 }
