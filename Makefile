@@ -1,10 +1,12 @@
 # make test: every proof, must-fail edit, program, stored run, Rust test and the comparison with 000.
 # make fit: the example table fitted by the Rust command. make listing: the printing program on a small job.
+# Before the first of them the crates are proved, in some minutes; what is said of that goes to standard error.
 # make instructions: instructions of fits, counted.
 # make compare N=100000: the comparison with that many random jobs. make store: stored answers of 000 anew, for crates/replay.
+# make listings: the jobs of tests/listings/jobs.txt as files anew, with what 000 has gwrprint print of them.
 # make bench: times against 000, and the stack of a fit; make bench ARGS="5 growth stack": of five runs, two of the tables.
 # make fuzz SECONDS=60: the byte calls fuzzed from outside. make planted: the same, over planted faults that must be noticed.
-.PHONY: test rust fit listing compare bench instructions store fuzz planted fmt
+.PHONY: test rust fit listing compare bench instructions store listings fuzz planted fmt
 
 CARGO = cd rust && cargo run --offline --release --quiet --package
 
@@ -15,11 +17,11 @@ rust:
 	@bash scripts/rust.sh
 
 fit:
+	@bash scripts/prove.sh gateway
 	@$(CARGO) gateway --bin gwr -- ../examples/pantries.csv $(ARGS)
 
 listing:
-	@mkdir -p target
-	@rt check gwrprint >target/fit.log 2>&1 || { cat target/fit.log; exit 1; }
+	@bash scripts/prove.sh gwrprint
 	@target/bin/gwrprint <crates/gwrprint/stdin
 
 compare:
@@ -32,8 +34,10 @@ instructions:
 	@bash scripts/instructions.sh
 
 store:
-	@$(CARGO) oracle --bin store -- 360 >../crates/replay/stdin.new
-	@mv crates/replay/stdin.new crates/replay/stdin
+	@$(CARGO) oracle --bin store
+
+listings:
+	@$(CARGO) oracle --bin listings
 
 fuzz:
 	@bash scripts/fuzz.sh $(SECONDS)

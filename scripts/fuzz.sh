@@ -79,9 +79,7 @@ under_valgrind() {
 }
 
 can_build || { apt-get install -y clang libclang-rt-14-dev && can_build; }
-if [ ! -f "$archive" ] || [ -n "$(find crates -path '*/src/*' -newer "$archive")" ]; then
-    rt staticlib gateway >"$work/log" 2>&1 || { cat "$work/log"; exit 1; }
-fi
+bash scripts/prove.sh gateway
 case "${1-}" in
 planted) planted; exit ;;
 valgrind) under_valgrind; exit ;;

@@ -1,6 +1,7 @@
 #!/usr/bin/env bash
 # The table of definitions in README: every file of specs/ stands in it once, with the number of its lines.
-# `reading.sh` says what is wrong with it; `reading.sh fix` writes the numbers anew.
+# And what a reader must believe ends in specs/: no definition there, and no contract, imports from proofs/.
+# `reading.sh` says what is wrong; `reading.sh fix` writes the numbers anew.
 set -u
 cd "$(dirname "$0")/.." || exit 2
 
@@ -15,9 +16,13 @@ fi
 
 wanted=$(find crates -path '*/specs/*.antt' ! -name Lib.antt | sort)
 listed=$(rows | cut -d' ' -f2 | sort)
-wrong=$(diff <(echo "$wanted") <(echo "$listed") | grep '^[<>]')
-wrong+=$(rows | while IFS='|' read -r _ file lines; do
-    file=${file// /}
-    [ "$(wc -l <"$file")" -eq "${lines:-0}" ] || echo "$file has not $lines lines"
-done 2>&1)
+wrong=$(
+    diff <(echo "$wanted") <(echo "$listed") | grep '^[<>]'
+    rows | while IFS='|' read -r _ file lines; do
+        file=${file// /}
+        [ "$(wc -l <"$file")" -eq "${lines:-0}" ] || echo "$file has not $lines lines"
+    done 2>&1
+    find crates -path '*/specs/*.antt' -o -path '*/src/*.rt' | sort | xargs grep -nE '^ *(ghost )?use [^ ]*(\.|·)proofs(\.|·|;| |$)' |
+        sed 's/^/imports from proofs: /'
+)
 [ -z "$wrong" ] || { echo "$wrong"; exit 1; }

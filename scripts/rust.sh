@@ -1,6 +1,7 @@
 #!/usr/bin/env bash
 # The Rust side: layout, lints, tests, and the comparison with 000. Its last line is 'N passed, M failed'; the comparison counts
-# as one, and not at all where 000 is not at hand, which it says in one line. Run it after the proofs: it links what they wrote.
+# as one, and not at all where the source of 000 is not at hand. The line before the last says how it went, or that it was left out.
+# What the checks need must be there: without cargo, rustfmt or clippy they fail. Run it after the proofs: it links what they wrote.
 set -u
 cd "$(dirname "$0")/../rust" || exit 2
 . ../scripts/count.sh
@@ -11,11 +12,18 @@ if ! command -v cargo >/dev/null; then
 fi
 export CARGO_TERM_COLOR=never
 
-if cargo fmt --version >/dev/null 2>&1; then
+# part COMMAND COMPONENT: whether cargo has the command; without it the check fails.
+part() {
+    cargo "$1" --version >/dev/null 2>&1 && return
+    note 1 "no command cargo $1: that check did not run (the toolchain's component $2 is missing)"
+    return 1
+}
+
+if part fmt rustfmt; then
     cargo fmt --check >/dev/null
     note $? "cargo fmt --check"
 fi
-if cargo clippy --version >/dev/null 2>&1; then
+if part clippy clippy; then
     cargo clippy --offline --quiet --release --all-targets -- -D warnings
     note $? "cargo clippy"
 fi
@@ -31,8 +39,13 @@ while read -r good bad; do
 done < <(sed -n 's/^test result: .* \([0-9]*\) passed; \([0-9]*\) failed;.*/\1 \2/p' "$log")
 note "$status" "cargo test"
 
-cargo run --offline --release --quiet --package compare
-status=$?
-# 3: the source of 000 is missing, and the comparison has said so.
-[ "$status" -eq 3 ] || note "$status" "comparison with 000"
+cargo run --offline --release --quiet --package compare | tee "$log" | grep -v '^comparison with 000: '
+status=${PIPESTATUS[0]}
+# 3: the source of 000 is missing, and the comparison has said where it is looked for.
+if [ "$status" -eq 3 ]; then
+    remark='comparison with 000 left out: its source is not here'
+else
+    note "$status" "comparison with 000"
+    remark=$(grep '^comparison with 000: ' "$log" || echo 'comparison with 000: it gave no verdict')
+fi
 verdict

@@ -10,9 +10,9 @@ use lib.Dec.{T, leb}
 use lib.ListN.{length}
 use lib.Ieee.{Float, nan, inf, fin, lt, le, eq, isNan, ofBits}
 use lib.Ieee.Scale.{finite}
-use Rattle.real.specs.Reals.{zero64, greater}
+use Rattle.real.specs.Reals.{zero64}
 use Rattle.real.proofs.Fold.{kept}
-use Rattle.real.proofs.SignedOrder.{le-tr, nlt→le, lt→le}
+use Rattle.real.proofs.SignedOrder.{nlt→le}
 use Rattle.refusal.specs.declared.Refusal.{Refusal}
 use Rattle.refusal.specs.declared.Refusal.the-variants.{NoCoordinates, OddCoordinates, TooManyObservations, TooManyPredictors, PredictorLength, ResponseLength, TooFewObservations, ResponseNotFinite, CoordinateNotFinite, PredictorNotFinite, UnusableDistance, NoDistanceRange, OutputTooShort}
 use Rattle.neighbours.specs.declared.GwrBandwidth.{GwrBandwidth}
@@ -26,23 +26,13 @@ use Rattle.plan.specs.declared.Plan.the-variants as plan
 use Rattle.plan.specs.Checks.{judge, lengthTests, shapeTests, finiteTests, valueTests, roomTests, inputTests}
 use Rattle.plan.specs.Plan.{fartherPair, fartherFrom, greatestDistance, leastDistance, usableDistance, leastCount, greatestCount, distancePlan, rangePlan, countPlan, givenPlan, searchPlan, planOf, after, acceptOf}
 use Rattle.plan.proofs.Acceptance.{after-append}
+use Rattle.plan.proofs.Ranges.{Above, greater-above}
 use Rattle.gwr.proofs.Literal.{apart}
 use Rattle.claims.specs.Conditions.{Condition, UnusableGiven, NothingBetween, valueConditions, optionConditions, inputConditions}
 use Rattle.claims.proofs.Cases.{either, never}
 use Rattle.claims.proofs.Judged.{Says, AllTell, judged, tells, equal-tells, differ-tells, below-tells, finite-tells}
 
 -- ---- the greatest pair distance is no NaN and not below 0
-
-abbrev Above : Float → Type 0
-Above x = T (le zero64 x)
-
-greater-above : (a b : Float) → Above a → Above (greater a b)
-unfolding greater
-greater-above a b h = go (lt a b) refl
-  where
-    go : (t : Bool) → lt a b ≡ t → Above (cond t b a)
-    go true e = le-tr zero64 a b h (lt→le a b (subst⁻¹ T e tt))
-    go false e = h
 
 zero-above : Above zero64
 unfolding le ofBits

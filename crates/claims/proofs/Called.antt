@@ -1,4 +1,4 @@
--- The byte calls: which inputs are refused, and which bytes are left alone.
+-- The byte calls: which inputs are refused, and every byte that a call leaves.
 use mathlib.Core.Path.{_≡_, refl, sym, ap, subst, subst⁻¹, _∙_}
 use mathlib.Core.Bool.{Bool, true, false, cond, not}
 use mathlib.Core.List.{List, [], _∷_, _++_}
@@ -6,14 +6,14 @@ use mathlib.Core.Logic.{_⊎_, inl, inr}
 use Prim.Native.Nat.{ℕ, _+_, _*_, _-_, _/_, _%_, _≤_, _<_}
 use native.Mathlib.Nat.{mul-le-mul, mul-le-mul-right}
 use native.Mathlib.Omega.{arith}
-use borrow.Author.Tests.{eqb-true, eqb-false, ltb-true, lt-ltb}
+use borrow.Author.Tests.{eqb-true, eqb-false, ltb-true, lt-ltb, le-ltb}
 use lib.Dec.{eqb, ltb}
 use lib.ListN.{length, take, drop, replicate, length-take, length-append, length-replicate}
 use lib.Seq.{drop-at, drop-drop}
-use lib.Ieee.{Float, le}
+use lib.Ieee.{Float, le, isNan, toBits, ofBits}
 use Rattle.real.specs.Reals.{zero64}
 use Rattle.refusal.specs.declared.Refusal.{Refusal}
-use Rattle.refusal.specs.declared.Refusal.the-variants.{NoCoordinates, OddCoordinates, TooManyObservations, TooManyPredictors, PredictorLength, ResponseLength, TooFewObservations, CoordinateNotFinite, OutputTooShort, Singular, InverseNotFinite, CoefficientNotFinite, DeviationNotFinite, UnknownNumber}
+use Rattle.refusal.specs.declared.Refusal.the-variants.{NoCoordinates, OddCoordinates, TooManyObservations, TooManyPredictors, PredictorLength, ResponseLength, TooFewObservations, CoordinateNotFinite, OutputTooShort, Singular, InverseNotFinite, CoefficientNotFinite, UnknownNumber}
 use Rattle.refusal.specs.Numbers.{refusalNumber}
 use Rattle.kernel.specs.declared.GwrKernel.{GwrKernel}
 use Rattle.kernel.specs.declared.GwrKernel.the-variants.{Gaussian, Bisquare, Exponential}
@@ -22,9 +22,10 @@ use Rattle.kernel.specs.Weight.{weightOf, weighed}
 use Rattle.neighbours.specs.declared.GwrBandwidth.{GwrBandwidth}
 use Rattle.normal.specs.Data.{Data}
 use Rattle.local.specs.declared.Outcome.{Outcome}
-use Rattle.local.specs.declared.Outcome.the-variants as outcome
 use Rattle.local.specs.Solve.{solveLocation}
-use Rattle.criterion.specs.declared.Summary.{Summary}
+use Rattle.criterion.specs.declared.Criterion.{Criterion}
+use Rattle.criterion.specs.declared.Criterion.the-variants as criterion
+use Rattle.criterion.specs.Aicc.{correctedAic, failedSummary}
 use Rattle.plan.specs.declared.Check.{Check}
 use Rattle.plan.specs.declared.Check.the-variants as check
 use Rattle.plan.specs.declared.GwrOptions.{GwrOptions}
@@ -32,7 +33,7 @@ use Rattle.plan.specs.Checks.{judge}
 use Rattle.gwr.specs.declared.FitAnswer.{FitAnswer}
 use Rattle.gwr.specs.declared.FitAnswer.the-variants as fit
 use Rattle.gwr.specs.declared.Fit.{Fit}
-use Rattle.gwr.specs.Fit.{jobData, fitOf}
+use Rattle.gwr.specs.Fit.{fitOf}
 use Rattle.wire.specs.Wire.{bytesOf, bitsOf, realOf, reals, realBytes, placed}
 use Rattle.wire.proofs.Placed.{length-placed}
 use Rattle.wire.proofs.Numbers.{length-bytesOf}
@@ -45,11 +46,11 @@ use Rattle.calls.specs.declared.Choice.the-variants as choice
 use Rattle.calls.specs.Options.{kernelOf, kindOf, optionsWith, optionsOf}
 use Rattle.calls.specs.Calls.{After, partTests, byteTests, roomOf, refused, summaryBytes, written, answerBytes, fitted, fitParts, checked, chosenBytes, fitBytes, weightPlaced, weightRoom, weightWith, weightBytes}
 use Rattle.claims.specs.Conditions.{Condition, when, None, First-of, Decides, named, valueConditions, optionConditions, inputConditions, byteConditions, weightConditions}
-use Rattle.claims.specs.DemandOne.{FitAnswered, BytesServed, WeightRefused, WeightServed}
+use Rattle.claims.specs.DemandOne.{residualSquares, leverageTrace, decidedBy, FitAnswered, JobServed, answerNumber, threeOf, summaryOf, NumbersServed, numbersFit, BytesServed, WeightRefused, WeightServed}
 use Rattle.claims.proofs.Cases.{either, never}
 use Rattle.claims.proofs.Judged.{Says, AllTell, judged, decides, tells, equal-tells, differ-tells, below-tells}
 use Rattle.claims.proofs.Accepting.{tests, input-says}
-use Rattle.claims.proofs.Deciding.{final, fit-refused, fit-passed, distance-tells}
+use Rattle.claims.proofs.Deciding.{fit-refused, fit-passed, distance-tells}
 use Rattle.claims.proofs.Solved.{AtLocation, OutcomeAt, location-at}
 
 -- ---- bytes behind those that are placed
@@ -71,60 +72,86 @@ placed-behind l row k h =
 in-range : (r s : Refusal) → r ≡ s → (14 ≤ refusalNumber s) × (refusalNumber s ≤ 17) → (14 ≤ refusalNumber r) × (refusalNumber r ≤ 17)
 in-range r s e h = subst⁻¹ (λ (z : Refusal). (14 ≤ refusalNumber z) × (refusalNumber z ≤ 17)) e h
 
-location-number : (r : Refusal) → AtLocation r → (14 ≤ refusalNumber r) × (refusalNumber r ≤ 17)
+pub location-number : (r : Refusal) → AtLocation r → (14 ≤ refusalNumber r) × (refusalNumber r ≤ 17)
 location-number r (inl e) = in-range r Singular e (omega arith, omega arith)
 location-number r (inr (inl e)) = in-range r InverseNotFinite e (omega arith, omega arith)
 location-number r (inr (inr e)) = in-range r CoefficientNotFinite e (omega arith, omega arith)
 
-module _ (d : Data) (k : GwrKernel) (b : GwrBandwidth) where
+-- fitted, or failed with 14 to 17 and a summary of zeros but for the solve count
+abbrev Said : FitAnswer → Type 0
+Said (fit.Fitted v) = Unit {0}
+Said (fit.Failed r v) = ((14 ≤ refusalNumber r) × (refusalNumber r ≤ 17)) × (v ≡ failedSummary (v .solves))
+Said (fit.Rejected r) = ⊥
+
+decided-said : (c : Criterion) (b : GwrBandwidth) (solves : ℕ) → Said (decidedBy c b solves)
+decided-said (criterion.Value v) b solves = tt
+decided-said (criterion.Refused r) b solves = ((omega arith, omega arith), refl)
+
+module _ (d : Data) (k : GwrKernel) (b : GwrBandwidth) (searched : ℕ) where
   abbrev solve : ℕ → Outcome
   solve i = solveLocation d k b i .outcome
 
-  abbrev MetIn : Refusal → ℕ → ℕ → Type 0
-  MetIn r rows n = ((rows < n) × (solve rows ≡ outcome.Refused r)) ⊎ ((rows ≡ n) × (r ≡ DeviationNotFinite))
+  abbrev Answered : FitAnswer → ℕ → ℕ → Type 0
+  Answered a rows n = FitAnswered a solve b searched rows n
 
-  met-number : (r : Refusal) (rows n : ℕ) → MetIn r rows n → (14 ≤ refusalNumber r) × (refusalNumber r ≤ 17)
-  met-number r rows n (inl h) = location-number r (subst OutcomeAt (h .1) (location-at d k b rows))
-  met-number r rows n (inr h) = in-range r DeviationNotFinite (h .1) (omega arith, omega arith)
+  answer-said : (a : FitAnswer) (rows n : ℕ) → Answered a rows n → Said a
+  answer-said a rows n (inl (l, r, e, h)) = subst⁻¹ Said h (location-number r (subst OutcomeAt e (location-at d k b rows)), refl)
+  answer-said a rows n (inr (l, h)) = subst⁻¹ Said h (decided-said (correctedAic n (residualSquares solve n) (leverageTrace solve n)) b (searched + n))
 
-  rows-few : (a : FitAnswer) (rows n : ℕ) → FitAnswered a solve rows n → rows ≤ n
-  rows-few (fit.Fitted s) rows n h = omega arith
-  rows-few (fit.Failed r s) rows n h = met-few (h .0)
-    where
-      met-few : MetIn r rows n → rows ≤ n
-      met-few (inl h) = omega (arith, h .0)
-      met-few (inr h) = omega (arith, h .0)
-  rows-few (fit.Rejected r) rows n h = absurd h
+  rows-few : (a : FitAnswer) (rows n : ℕ) → Answered a rows n → rows ≤ n
+  rows-few a rows n (inl h) = omega (arith, h .0)
+  rows-few a rows n (inr h) = omega (arith, h .0)
 
-summary-long : (v : Summary) → length (summaryBytes v) ≡ 24
-unfolding summaryBytes
-summary-long v =
-    length-append (bytesOf (bitsOf (v .bandwidth))) (bytesOf (bitsOf (v .aicc)) ++ bytesOf (v .solves))
-    ∙ omega (arith, length-append (bytesOf (bitsOf (v .aicc))) (bytesOf (v .solves)), length-bytesOf (bitsOf (v .bandwidth)), length-bytesOf (bitsOf (v .aicc)), length-bytesOf (v .solves))
+zero-bits : bitsOf zero64 ≡ 0
+unfolding bitsOf isNan toBits ofBits
+zero-bits = refl
 
-module _ (n p : ℕ) (out summary : List ℕ) (room : 8 * (n * (p + 4)) ≤ length out) (whole : 24 ≤ length summary) where
-  written-served : (number : ℕ) (rows : List Float) (v : Summary) → (number ≡ 0) ⊎ ((14 ≤ number) × (number ≤ 17)) → length rows ≤ n * (p + 4) → BytesServed n p out summary (written number rows v out summary)
-  unfolding written
-  written-served number rows v h few =
-      let r = length-realBytes rows in
-      let s = summary-long v in
-      record {
-        number = h;
-        untouched = placed-behind out (realBytes rows) (8 * (n * (p + 4))) (omega (arith, r, few));
-        summary-untouched = placed-behind summary (summaryBytes v) 24 (omega (arith, s));
-        long = (length-placed out 0 (realBytes rows) (omega (arith, r, few, room)), length-placed summary 0 (summaryBytes v) (omega (arith, s, whole)));
-      }
+three-long : (u v w : ℕ) → length (threeOf u v w) ≡ 24
+three-long u v w =
+    length-append (bytesOf u) (bytesOf v ++ bytesOf w)
+    ∙ omega (arith, length-append (bytesOf v) (bytesOf w), length-bytesOf u, length-bytesOf v, length-bytesOf w)
 
-  module _ (d : Data) (g : GwrKernel) (b : GwrBandwidth) where
-    answer-served : (a : FitAnswer) (k : ℕ) (rows : List Float) → FitAnswered a (solve d g b) k n → length rows ≤ n * (p + 4) → BytesServed n p out summary (answerBytes a rows out summary)
-    answer-served (fit.Fitted v) k rows h few = written-served 0 rows v (inl refl) few
-    answer-served (fit.Failed r v) k rows h few = written-served (refusalNumber r) rows v (inr (met-number d g b r k n (h .0))) few
-    answer-served (fit.Rejected r) k rows h few = absurd h
+summary-long : (a : FitAnswer) → Said a → length (summaryOf a) ≡ 24
+summary-long (fit.Fitted v) h = three-long _ _ _
+summary-long (fit.Failed r v) h = three-long _ _ _
+summary-long (fit.Rejected r) h = absurd h
 
-    fitted-served : (f : Fit × List Float) → FitAnswered (f .0 .answer) (solve d g b) (f .0 .rows) n → BytesServed n p out summary (fitted p f out summary)
-    fitted-served f h =
-        let rows : f .0 .rows * (p + 4) ≤ n * (p + 4) = mul-le-mul-right (p + 4) (rows-few d g b (f .0 .answer) (f .0 .rows) n h) in
-        answer-served (f .0 .answer) (f .0 .rows) (take (f .0 .rows * (p + 4)) (f .1)) h (omega (arith, length-take (f .0 .rows * (p + 4)) (f .1), rows))
+number-in : (a : FitAnswer) → Said a → (answerNumber a ≡ 0) ⊎ ((14 ≤ answerNumber a) × (answerNumber a ≤ 17))
+number-in (fit.Fitted v) h = inl refl
+number-in (fit.Failed r v) h = inr (h .0)
+number-in (fit.Rejected r) h = absurd h
+
+bytes-as : (a : FitAnswer) (rows : List Float) (out summary : List ℕ) → Said a → answerBytes a rows out summary ≡ (answerNumber a, (placed out 0 (realBytes rows), placed summary 0 (summaryOf a)))
+unfolding written summaryBytes
+bytes-as (fit.Fitted v) rows out summary h = refl
+bytes-as (fit.Failed r v) rows out summary h =
+    let e : summaryBytes v ≡ threeOf 0 0 (v .solves) = ap summaryBytes (h .1) ∙ ap (λ (z : ℕ). threeOf z z (v .solves)) zero-bits in
+    ap (λ (t : List ℕ). (refusalNumber r, (placed out 0 (realBytes rows), placed summary 0 t))) e
+bytes-as (fit.Rejected r) rows out summary h = absurd h
+
+module _ (coords x y : List ℕ) (p : ℕ) (o : GwrOptions) (out summary : List ℕ) where
+  served : 8 * (length coords / 16 * (p + 4)) ≤ length out → 24 ≤ length summary → NumbersServed coords x y p (choice.Known o)
+      → BytesServed coords x y p (choice.Known o) out summary (fitted p (numbersFit coords x y p (choice.Known o)) out summary)
+  served room whole h =
+      let n = length coords / 16 in
+      let f = numbersFit coords x y p (choice.Known o) in
+      let half : length (reals coords (2 * n)) / 2 ≡ n = omega (arith, length-reals coords (2 * n)) in
+      let few : f .0 .rows ≤ length (reals coords (2 * n)) / 2 = rows-few _ _ _ _ _ _ _ (h .answered) in
+      let rows : f .0 .rows * (p + 4) ≤ n * (p + 4) = mul-le-mul-right (p + 4) (omega arith) in
+      let numbers = take (f .0 .rows * (p + 4)) (f .1) in
+      let r : length (realBytes numbers) ≤ 8 * (f .0 .rows * (p + 4)) = omega (arith, length-realBytes numbers, length-take (f .0 .rows * (p + 4)) (f .1)) in
+      let a = answer-said _ _ _ _ _ _ _ (h .answered) in
+      let t = summary-long (f .0 .answer) a in
+      subst⁻¹ (BytesServed coords x y p (choice.Known o) out summary) (bytes-as (f .0 .answer) numbers out summary a)
+      (record {
+        known = refl;
+        numbers = h;
+        placed-in = refl;
+        number = number-in (f .0 .answer) a;
+        untouched = placed-behind out (realBytes numbers) (8 * (f .0 .rows * (p + 4))) r;
+        summary-untouched = placed-behind summary (summaryOf (f .0 .answer)) 24 (omega (arith, t));
+        long = (length-placed out 0 (realBytes numbers) (omega (arith, r, rows, room)), length-placed summary 0 (summaryOf (f .0 .answer)) (omega (arith, t, whole)));
+      })
 
 -- ---- 18
 
@@ -168,11 +195,11 @@ kind-says k kind bandwidth = go (eqb kind 0) (eqb kind 1) (eqb kind 2) (eqb kind
         let w : kind ≡ 3 → ⊥ = eqb-false _ _ h in
         omega arith
 
-abbrev OptionsSay : Choice → ℕ → ℕ → Type 0
+abbrev pub OptionsSay : Choice → ℕ → ℕ → Type 0
 OptionsSay (choice.Known o) number kind = (number ≤ 2) × (kind ≤ 3)
 OptionsSay choice.Unknown number kind = (2 < number) ⊎ (3 < kind)
 
-options-say : (number kind bandwidth : ℕ) → OptionsSay (optionsOf number kind bandwidth) number kind
+pub options-say : (number kind bandwidth : ℕ) → OptionsSay (optionsOf number kind bandwidth) number kind
 unfolding optionsOf
 options-say number kind bandwidth = go (kernelOf number) (kernel-says number)
   where
@@ -215,12 +242,12 @@ says-same check.Pass l m a h = none-same l m a h
 says-same (check.Refused r) l m a h = first-same l m r a h
 
 -- behind a condition that does not hold
-says-later : (k : Check) (c : Condition) (l : List Condition) → (c .holds → ⊥) → Says k l → Says k (c ∷ l)
+pub says-later : (k : Check) (c : Condition) (l : List Condition) → (c .holds → ⊥) → Says k l → Says k (c ∷ l)
 says-later check.Pass c l n h = (n, h)
 says-later (check.Refused r) c l n h = inr (n, h)
 
 -- before more conditions
-first-more : (l m : List Condition) (r : Refusal) → First-of l r → First-of (l ++ m) r
+pub first-more : (l m : List Condition) (r : Refusal) → First-of l r → First-of (l ++ m) r
 first-more [] m r h = absurd h
 first-more (c ∷ l) m r (inl h) = inl h
 first-more (c ∷ l) m r (inr h) = inr (h .0, first-more l m r (h .1))
@@ -235,6 +262,10 @@ not-below : {a b : ℕ} → (a < b → ⊥) → b ≤ a
 not-below {a} {b} h = let k : a < b → ⊥ = h in omega arith
 
 -- ---- 13
+
+room-is : (n p out summary : ℕ) → 8 * (n * (p + 4)) ≤ out → 24 ≤ summary → roomOf n p out summary ≡ n * (p + 4)
+unfolding roomOf
+room-is n p out summary h k = rw (le-ltb summary 24 k, le-ltb out (8 * (n * (p + 4))) h)
 
 module _ (n p out summary : ℕ) (some : 1 ≤ n) where
   wide : 1 ≤ n * (p + 4)
@@ -349,26 +380,22 @@ module _ (coords x y : List ℕ) (p number kind : ℕ) (out summary : List ℕ) 
     abbrev after : Check → After
     after k = checked k (fitParts coords x y n p o out summary) out summary
 
-    abbrev fitIs : Fit × List Float
-    fitIs = fitOf C X Y p o Z
-
     after-refused : (k : Check) (r : Refusal) → Says k lengthConditions → said k ≡ check.Refused r → after k ≡ (refusalNumber r, (out, summary))
     unfolding fitParts
     after-refused check.Pass r h e =
         ap (λ (f : Fit × List Float). fitted p f out summary) (fit-refused C X Y p o Z r e)
     after-refused (check.Refused q) r h e = ap (λ (z : Check). after z) e
 
-    after-served : (k : Check) → ((2 < number) ⊎ (3 < kind) → ⊥) → Says k lengthConditions → said k ≡ check.Pass → BytesServed n p out summary (after k)
+    after-served : (k : Check) → ((2 < number) ⊎ (3 < kind) → ⊥) → Says k lengthConditions → said k ≡ check.Pass → BytesServed coords x y p (choice.Known o) out summary (after k)
     unfolding fitParts
     after-served check.Pass known h e =
         let c : None conditions = subst (λ (k : Check). Says k conditions) e (says check.Pass known h) in
         let short : (length out < 8 * (n * (p + 4))) ⊎ (length summary < 24) → ⊥ = c .1 .1 .1 .1 .1 .1 .1 .1 .1 .1 .1 .0 in
         let rows : 8 * (n * (p + 4)) ≤ length out = not-below (λ k. short (inl k)) in
-        let half : length C / 2 ≡ n = omega (arith, length-reals coords (2 * n)) in
-        let d = jobData C X Y p in
-        let b = final C X Y p o Z in
-        fitted-served n p out summary rows (not-below (λ k. short (inr k))) d (o .kernel) b fitIs
-        (subst (λ (m : ℕ). FitAnswered (fitIs .0 .answer) (solve d (o .kernel) b) (fitIs .0 .rows) m) half (fit-passed C X Y p o Z e .answered))
+        let whole : 24 ≤ length summary = not-below (λ k. short (inr k)) in
+        let room = room-is n p (length out) (length summary) rows whole in
+        subst⁻¹ (λ (k : ℕ). BytesServed coords x y p (choice.Known o) out summary (fitted p (fitOf C X Y p o (replicate k zero64)) out summary)) room
+        (served coords x y p o out summary rows whole (subst (λ (k : ℕ). JobServed C X Y p o (replicate k zero64)) room (fit-passed C X Y p o Z e)))
     after-served (check.Refused q) known h e = let z : _≡_ {A = ℕ} 0 1 = cc in absurd (omega arith)
 
   -- the whole call
@@ -376,7 +403,7 @@ module _ (coords x y : List ℕ) (p number kind : ℕ) (out summary : List ℕ) 
   owed c =
       Decides (byteConditions coords x y p number kind (named c) (length out) (length summary))
       (λ (r : Refusal). chosenBytes c coords x y p out summary ≡ (refusalNumber r, (out, summary)))
-      (BytesServed n p out summary (chosenBytes c coords x y p out summary))
+      (BytesServed coords x y p c out summary (chosenBytes c coords x y p out summary))
 
   abbrev refusedBy : Check → After
   refusedBy check.Pass = refused UnknownNumber out summary
@@ -397,7 +424,7 @@ module _ (coords x y : List ℕ) (p number kind : ℕ) (out summary : List ℕ) 
 
   pub fit-call-decides : (bandwidth : ℕ) → Decides (byteConditions coords x y p number kind (named (optionsOf number kind bandwidth)) (length out) (length summary))
       (λ (r : Refusal). fitBytes coords x y p number kind bandwidth out summary ≡ (refusalNumber r, (out, summary)))
-      (BytesServed n p out summary (fitBytes coords x y p number kind bandwidth out summary))
+      (BytesServed coords x y p (optionsOf number kind bandwidth) out summary (fitBytes coords x y p number kind bandwidth out summary))
   unfolding fitBytes
   fit-call-decides bandwidth = chosen-decides (optionsOf number kind bandwidth) (options-say number kind bandwidth)
 

@@ -16,7 +16,6 @@ use Rattle.refusal.specs.declared.Refusal.the-variants.{CoordinateNotFinite}
 use Rattle.kernel.specs.declared.GwrKernel.{GwrKernel}
 use Rattle.kernel.specs.declared.Weighed.the-variants as weight
 use Rattle.kernel.specs.Weight.{weightOf, weighed}
-use Rattle.neighbours.specs.declared.GwrBandwidth.{GwrBandwidth}
 use Rattle.plan.specs.declared.Check.the-variants as check
 use Rattle.plan.specs.declared.GwrOptions.{GwrOptions}
 use Rattle.plan.specs.declared.Plan.{Plan}
@@ -32,7 +31,7 @@ use Rattle.job.specs.Turn.{setupOf, begunWith, beginOf}
 use Rattle.claims.specs.Whole.{finalBandwidth, searchSolves}
 use Rattle.claims.specs.Turns.{AllLawful}
 use Rattle.claims.specs.Conditions.{when, Decides, FitRecord, inputConditions}
-use Rattle.claims.specs.DemandOne.{FitServed, BeginRefused, BeginServed}
+use Rattle.claims.specs.DemandOne.{JobServed, BeginRefused, BeginServed}
 use Rattle.claims.proofs.Judged.{Tells, judged, decides, tells}
 use Rattle.claims.proofs.Accepting.{number-zero, tests, input-says, accept-refused, accept-passed, Unrefused}
 use Rattle.claims.proofs.Served.{Finished, final-finished}
@@ -66,27 +65,24 @@ module _ (coords x y : List Float) (p : ℕ) (o : GwrOptions) where
     room-of (plan.Settled b) e h = let a = settled-accepted coords x y p o (length out) b e .0 in (a .room, a .shaped .narrow)
     room-of (plan.Sought lo hi) e h = let a = sought-accepted coords x y p o (length out) lo hi e in (a .room, a .shaped .narrow)
 
-    -- the final bandwidth
-    abbrev pub final : GwrBandwidth
-    final = finalBandwidth (acceptOf coords x y p o (length out)) (jobData coords x y p) o
-
-    fit-served : Good (acceptOf coords x y p o (length out)) → FitServed (jobData coords x y p) o final out (fitOf coords x y p o out)
+    fit-served : Good (acceptOf coords x y p o (length out)) → JobServed coords x y p o out
     unfolding AllLawful
     fit-served h =
         let d = jobData coords x y p in
+        let q = acceptOf coords x y p o (length out) in
         let z = demand-three coords x y p o out (begins h) [] tt in
-        let r = room-of (acceptOf coords x y p o (length out)) refl h in
-        let f = subst⁻¹ (Finished d o final out) (z .final) (final-finished d o final (searchSolves (acceptOf coords x y p o (length out)) d o) out (r .0) (r .1)) in
+        let r = room-of q refl h in
+        let f = subst⁻¹ (Finished d o (finalBandwidth q d o) (searchSolves q d o) out) (z .final) (final-finished d o (finalBandwidth q d o) (searchSolves q d o) out (r .0) (r .1)) in
         record { answered = f .answered; written = f .written; untouched = f .untouched; long = f .long; solves = z .bound }
 
     pub fit-refused : (r : Refusal) → judge (tests coords x y p (length out) o) ≡ check.Refused r → fitOf coords x y p o out ≡ (record { answer = fit.Rejected r; rows = 0 }, out)
     unfolding fitOf
     fit-refused r e = ap (λ (q : Plan). planned q (jobData coords x y p) o out) (accept-refused coords x y p (length out) o r e)
 
-    pub fit-passed : judge (tests coords x y p (length out) o) ≡ check.Pass → FitServed (jobData coords x y p) o final out (fitOf coords x y p o out)
+    pub fit-passed : judge (tests coords x y p (length out) o) ≡ check.Pass → JobServed coords x y p o out
     fit-passed e = fit-served (accept-passed coords x y p (length out) o e)
 
-    pub fit-decides : Decides (inputConditions coords x y p o (length out)) (λ (r : Refusal). fitOf coords x y p o out ≡ (record { answer = fit.Rejected r; rows = 0 }, out)) (FitServed (jobData coords x y p) o final out (fitOf coords x y p o out))
+    pub fit-decides : Decides (inputConditions coords x y p o (length out)) (λ (r : Refusal). fitOf coords x y p o out ≡ (record { answer = fit.Rejected r; rows = 0 }, out)) (JobServed coords x y p o out)
     fit-decides = decides _ (judge (tests coords x y p (length out) o)) (input-says coords x y p (length out) o) _ _ fit-refused fit-passed
 
   -- the record that a refused beginning gives is unfit

@@ -4,6 +4,7 @@ use Rattle.claims.proofs.Solved.{solve-decides}
 use Rattle.claims.proofs.Deciding.{fit-decides, begin-all, weigh-decides}
 use Rattle.claims.proofs.Turning.{turn-decides}
 use Rattle.claims.proofs.Called.{fit-call-decides, weight-call-decides}
+use Rattle.claims.proofs.Printing.{printing-decides}
 
 pub demand-one : DemandOne
 demand-one =
@@ -15,4 +16,5 @@ demand-one =
       fit-calls = λ coords x y p kernel kind bandwidth out summary. fit-call-decides coords x y p kernel kind out summary bandwidth;
       weight-calls = weight-call-decides;
       weights = weigh-decides;
+      prints = printing-decides;
     }

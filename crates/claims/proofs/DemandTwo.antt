@@ -9,20 +9,22 @@ use lib.Dec.{T}
 use lib.ListN.{length, getD}
 use lib.Ieee.{Float, nan, isNan}
 use lib.Ieee.Scale.{finite}
+use Rattle.real.proofs.RoundedOnce.{plus-once, minus-once, times-once, over-once, opposite-exact, less-exact}
 use Rattle.root.proofs.Nearest.{root-nearest, root-of-negative, root-of-nan, root-of-infinity, root-of-zero}
 use Rattle.elementary.proofs.ExpRange.{exp-in, K-le}
 use Rattle.elementary.proofs.LnRange.{ln-finite}
 use Rattle.elementary.proofs.SplitExact.{split-exact}
 use Rattle.kernel.proofs.DistanceRange.{distance-number}
 use Rattle.kernel.proofs.WeightRange.{weights-in, weight-zero}
-use Rattle.kernel.proofs.Published.{weight-rounded, weight-apart, gaussian-exact, bisquare-exact, bisquare-outside, exponential-exact, minus-once, times-once, over-once}
+use Rattle.kernel.proofs.Published.{weight-rounded, weight-apart, gaussian-exact, bisquare-exact, bisquare-outside, exponential-exact, constants-exact}
 use Rattle.neighbours.specs.Walk.{between}
 use Rattle.neighbours.proofs.Roots.{ceil-root-least}
 use Rattle.neighbours.proofs.Smallest.{kept-smallest, bandwidth-is-kth, all-met}
 use Rattle.normal.proofs.WeightSum.{weight-sum}
-use Rattle.criterion.proofs.Published.{published-exact, aicc-rounded, aicc-refused, aicc-exhausted, aicc-floored}
+use Rattle.criterion.proofs.Published.{published-exact, two-exact, aicc-rounded, aicc-refused, aicc-exhausted, aicc-floored}
 use Rattle.golden.proofs.Round.{G-is, G2-is}
-use Rattle.golden.proofs.Kiefer.{round-kiefer, searched, round-narrows}
+use Rattle.golden.proofs.Points.{near-golden, start-section, round-section, residues, golden-section}
+use Rattle.golden.proofs.Kiefer.{round-kiefer, searched, round-narrows, bottom-kept, bottom-stays}
 use Rattle.local.proofs.NormalEquations.{normal-equations}
 use Rattle.plan.specs.declared.GwrOptions.{GwrOptions}
 use Rattle.plan.specs.declared.Plan.{Plan}
@@ -30,6 +32,7 @@ use Rattle.gwr.specs.Fit.{planned, jobData, fitOf}
 use Rattle.gwr.proofs.Literal.{fit-literal}
 use Rattle.claims.specs.Conditions.{None, SomeNotFinite, inputConditions}
 use Rattle.claims.specs.DemandTwo.{DemandTwo}
+use Rattle.claims.proofs.Spanning.{job-span, job-searched}
 
 -- ---- the coordinates of an accepted job are finite
 
@@ -67,7 +70,16 @@ demand-two =
       searched = fit-literal;
       ratio = (G-is, G2-is);
       round-kiefer = round-kiefer;
-      points-inside = searched;
+      first-points = start-section;
+      next-points = round-section;
+      golden-section = golden-section;
+      residues = residues;
+      ratio-near = near-golden;
+      search-span = job-span;
+      points-inside = job-searched;
+      span-inside = searched;
+      bottom-kept = bottom-kept;
+      bottom-stays = bottom-stays;
       round-narrows = round-narrows;
       normal-equations = normal-equations;
       root-nearest = root-nearest;
@@ -86,6 +98,9 @@ demand-two =
       minus-once = minus-once;
       times-once = times-once;
       over-once = over-once;
+      opposite-exact = opposite-exact;
+      less-exact = less-exact;
+      constants-exact = constants-exact;
       weight-range = weights-in;
       weight-own = weight-zero;
       weight-sum =
@@ -97,6 +112,7 @@ demand-two =
       least-root = ceil-root-least;
       aicc-formula = aicc-rounded;
       aicc-order = published-exact;
+      aicc-once = λ pi root ln. (plus-once, minus-once, times-once, over-once, two-exact);
       aicc-zero = aicc-floored;
       aicc-exhausted = aicc-exhausted;
       aicc-refused = aicc-refused;

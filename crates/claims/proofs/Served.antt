@@ -10,6 +10,7 @@ use lib.Seq.{take-at, drop-at, take-take, take-add, length-take-le}
 use lib.Ieee.{Float}
 use lib.Ieee.Scale.{finite}
 use Rattle.real.specs.Fold.{turns, range}
+use Rattle.real.specs.Reals.{zero64}
 use Rattle.real.proofs.SignedOrder.{here-or-on}
 use Rattle.kernel.specs.declared.GwrKernel.{GwrKernel}
 use Rattle.neighbours.specs.declared.GwrBandwidth.{GwrBandwidth}
@@ -23,6 +24,7 @@ use Rattle.local.proofs.Copies.{row-within}
 use Rattle.local.proofs.Rows.{row-long, put-long}
 use Rattle.local.proofs.Lengths.{beta-eight}
 use Rattle.criterion.specs.declared.Criterion.{Criterion}
+use Rattle.criterion.specs.declared.Criterion.the-variants as criterion
 use Rattle.criterion.specs.Aicc.{realOf, deviation, correctedAic}
 use Rattle.plan.specs.declared.GwrOptions.{GwrOptions}
 use Rattle.gwr.specs.declared.Course.{Course}
@@ -31,9 +33,9 @@ use Rattle.gwr.specs.declared.Sweep.{Sweep}
 use Rattle.gwr.specs.declared.Fit.{Fit}
 use Rattle.gwr.specs.Sweep.{newSweep, afterOf, visitOf, endingOf, writeOf, visitFinal, sweepFinal}
 use Rattle.gwr.specs.Fit.{answerOf, finalOf}
-use Rattle.claims.specs.DemandOne.{Written, FitAnswered}
+use Rattle.claims.specs.DemandOne.{plusSquare, plusLeverage, decidedBy, Written, FitAnswered}
 use Rattle.claims.proofs.Cases.{either}
-use Rattle.claims.proofs.Untouched.{next-row, farther, put-behind}
+use Rattle.claims.proofs.Untouched.{next-row, farther, put-behind, put-front}
 
 -- ---- a part of a list
 
@@ -55,6 +57,14 @@ module _ (d : Data) (k : GwrKernel) (b : GwrBandwidth) (out : List Float) (room 
   abbrev solve : ℕ → Outcome
   solve i = solveLocation d k b i .outcome
 
+  -- a sum over the first i locations
+  abbrev summed : (Float → Outcome → Float) → ℕ → Float
+  summed plus i = turns (λ (q : ℕ) (sum : Float). plus sum (solve q)) 0 i zero64
+
+  sum-more : (plus : Float → Outcome → Float) (i : ℕ) (o : Outcome) (sum : Float) → solve i ≡ o → sum ≡ summed plus i → plus sum o ≡ summed plus (suc i)
+  unfolding turns
+  sum-more plus i o sum e h = rw (zero-add, e, h)
+
   -- row i of the output
   abbrev rowIn : List Float → ℕ → List Float
   rowIn w i = take (d .p + 4) (drop (i * (d .p + 4)) w)
@@ -63,13 +73,13 @@ module _ (d : Data) (k : GwrKernel) (b : GwrBandwidth) (out : List Float) (room 
   abbrev Before : ℕ → List Float → Type 0
   Before rows w = (i : ℕ) → i < rows → Written (solveLocation d k b i) (d .p) (rowIn w i)
 
-  -- before location i: a row for each location, or a refusal behind the last row
-  abbrev Swept : Course → ℕ → ℕ → List Float → Type 0
-  Swept Going i rows w = (rows ≡ i) × Before rows w × Left rows w
-  Swept (Stopped r) i rows w = (rows < i) × (solve rows ≡ outcome.Refused r) × Before rows w × Left rows w
+  -- before location i: a row and a solve for each location, and the sums of all, or a refusal behind the last row
+  abbrev Swept : Course → ℕ → ℕ → Float → Float → ℕ → List Float → Type 0
+  Swept Going i rows t q m w = (rows ≡ i) × Before rows w × Left rows w × (m ≡ i) × (t ≡ summed plusLeverage i) × (q ≡ summed plusSquare i)
+  Swept (Stopped r) i rows t q m w = (rows < i) × (solve rows ≡ outcome.Refused r) × Before rows w × Left rows w × (m ≡ rows + 1)
 
   abbrev SweptAt : ℕ → Sweep × List Float → Type 0
-  SweptAt i s = Swept (s .0 .course) i (s .0 .rows) (s .1)
+  SweptAt i s = Swept (s .0 .course) i (s .0 .rows) (s .0 .trace) (s .0 .squares) (s .0 .solves) (s .1)
 
   abbrev sweepAt : Course → ℕ → Float → Float → ℕ → Sweep
   sweepAt c r t q m = record { course = c; rows = r; trace = t; squares = q; solves = m }
@@ -99,15 +109,13 @@ module _ (d : Data) (k : GwrKernel) (b : GwrBandwidth) (out : List Float) (room 
       rw (e, drop-at (take at w) (row ++ drop (at + (d .p + 4)) w) at (length-take-le at w (omega (arith, fits, room, long)))) (take-at row (drop (at + (d .p + 4)) w) (d .p + 4) wide)
 
   other-row : (q i : ℕ) (w : List Float) (v : Values) → q < i → i < d .n → length w ≡ length out → rowIn (put i w v) q ≡ rowIn w q
-  unfolding putRow
   other-row q i w v h l long =
-      let at = i * (d .p + 4) in
+      let beta = solveLocation d k b i .beta in
       let e : d .p + 1 + 3 ≡ d .p + 4 = omega arith in
-      let fits : at + (d .p + 4) ≤ d .n * (d .p + 4) = row-within i (d .n) (d .p + 4) l in
-      let before : q * (d .p + 4) + (d .p + 4) ≤ at = row-within q i (d .p + 4) h in
-      let same : length (put i w v) ≡ length w = put-long w (d .n) (d .p + 1) i (solveLocation d k b i .beta) v (rw e (omega (arith, room, long))) l (omega (arith, narrow)) (beta-eight d k b i) in
-      let front : take at (put i w v) ≡ take at w = rw e (take-at (take at w) (rowOf (solveLocation d k b i .beta) (d .p + 1) v ++ drop (at + (d .p + 4)) w) at (length-take-le at w (omega (arith, fits, room, long)))) in
-      part-front (put i w v) w (q * (d .p + 4)) (d .p + 4) at before (omega (arith, same, fits, room, long)) (omega (arith, fits, room, long)) front
+      let fits : i * (d .p + 4) ≤ length w = omega (arith, row-within i (d .n) (d .p + 4) l, room, long) in
+      let same : length (put i w v) ≡ length w = put-long w (d .n) (d .p + 1) i beta v (rw e (omega (arith, room, long))) l (omega (arith, narrow)) (beta-eight d k b i) in
+      part-front (put i w v) w (q * (d .p + 4)) (d .p + 4) (i * (d .p + 4)) (row-within q i (d .p + 4) h) (omega (arith, same, fits)) fits
+      (rw e at (put-front w (d .p + 1) i beta v (rw e fits)))
 
   one-more : (i : ℕ) (w : List Float) (v : Values) → i < d .n → length w ≡ length out → solve i ≡ outcome.Found v → Before i w → Before (i + 1) (put i w v)
   one-more i w v l long e h q z =
@@ -116,23 +124,26 @@ module _ (d : Data) (k : GwrKernel) (b : GwrBandwidth) (out : List Float) (room 
         | inr y ↦ let same : q ≡ i = omega arith in subst⁻¹ (λ (r : ℕ). Written (solveLocation d k b r) (d .p) (rowIn (put i w v) r)) same (v, e, own-row i w v l long)
       ]
 
-  visited : (i : ℕ) (o : Outcome) (w : List Float) (rows : ℕ) (t q : Float) (m : ℕ) → i < d .n → solve i ≡ o → rows ≡ i → Before rows w → Left rows w
+  visited : (i : ℕ) (o : Outcome) (w : List Float) (rows : ℕ) (t q : Float) (m : ℕ) → i < d .n → solve i ≡ o → Swept Going i rows t q m w
       → SweptAt (suc i) (afterOf (sweepAt Going rows t q m) o, writeOf o (d .p + 1) i (solveLocation d k b i .beta) w)
-  visited i (outcome.Found v) w rows t q m l z e f h = (
+  visited i (outcome.Found v) w rows t q m l z (e, f, h, c, a, g) = (
     omega arith,
     subst⁻¹ (λ (r : ℕ). Before (r + 1) (put i w v)) e (one-more i w v l (h .1) z (subst (λ (r : ℕ). Before r w) e f)),
     subst⁻¹ (λ (r : ℕ). Left (r + 1) (put i w v)) e (left-put i (solveLocation d k b i .beta) w v l (beta-eight d k b i) (subst (λ (r : ℕ). Left r w) e h)),
+    omega arith,
+    sum-more plusLeverage i (outcome.Found v) t z a,
+    sum-more plusSquare i (outcome.Found v) q z g,
   )
-  visited i (outcome.Refused r) w rows t q m l z e f h = (omega arith, ap solve e ∙ z, f, h)
+  visited i (outcome.Refused r) w rows t q m l z (e, f, h, c, a, g) = (omega arith, ap solve e ∙ z, f, h, omega arith)
 
-  step : (i : ℕ) (c : Course) (rows : ℕ) (t q : Float) (m : ℕ) (w : List Float) → i < d .n → Swept c i rows w → SweptAt (suc i) (visitFinal d k b i (sweepAt c rows t q m, w))
+  step : (i : ℕ) (c : Course) (rows : ℕ) (t q : Float) (m : ℕ) (w : List Float) → i < d .n → Swept c i rows t q m w → SweptAt (suc i) (visitFinal d k b i (sweepAt c rows t q m, w))
   unfolding visitFinal visitOf
-  step i Going rows t q m w l h = visited i (solve i) w rows t q m l refl (h .0) (h .1) (h .2)
-  step i (Stopped r) rows t q m w l h = (omega (arith, h .0), h .1, h .2, h .3)
+  step i Going rows t q m w l h = visited i (solve i) w rows t q m l refl h
+  step i (Stopped r) rows t q m w l h = (omega (arith, h .0), h .1, h .2, h .3, h .4)
 
   swept-turns : (i : ℕ) → i ≤ d .n → SweptAt i (turns (visitFinal d k b) 0 i (newSweep, out))
   unfolding turns
-  swept-turns zero h = (refl, λ i l. absurd (omega arith), (refl, refl))
+  swept-turns zero h = (refl, λ i l. absurd (omega arith), (refl, refl), refl, refl, refl)
   swept-turns (suc i) h =
       let s = turns (visitFinal d k b) 0 i (newSweep, out) in
       rw zero-add (step i (s .0 .course) (s .0 .rows) (s .0 .trace) (s .0 .squares) (s .0 .solves) (s .1) (omega arith) (swept-turns i (omega arith)))
@@ -143,33 +154,37 @@ module _ (d : Data) (k : GwrKernel) (b : GwrBandwidth) (out : List Float) (room 
 
   -- ---- its answer
 
-  answered : (c : Course) (rows : ℕ) (t q : Float) (m before : ℕ) (w : List Float) → Swept c (d .n) rows w
-      → FitAnswered (answerOf (endingOf (sweepAt c rows t q m) (d .n)) b (before + m)) solve rows (d .n)
-  unfolding endingOf correctedAic
-  answered Going rows t q m before w h =
-      either (λ (c : Criterion). FitAnswered (answerOf c b (before + m)) solve rows (d .n)) (finite (deviation (realOf (d .n)) q)) _ _ (h .0) (inr (h .0, refl), refl)
-  answered (Stopped r) rows t q m before w h = (inl (h .0, h .1), refl)
+  decided : (q t : Float) (solves : ℕ) → answerOf (correctedAic (d .n) q t) b solves ≡ decidedBy (correctedAic (d .n) q t) b solves
+  unfolding correctedAic
+  decided q t solves = either (λ (c : Criterion). answerOf c b solves ≡ decidedBy c b solves) (finite (deviation (realOf (d .n)) q)) _ _ refl refl
 
-  left-of : (c : Course) (rows : ℕ) (w : List Float) → Swept c (d .n) rows w → Before rows w × Left rows w
-  left-of Going rows w h = (h .1, h .2)
-  left-of (Stopped r) rows w h = (h .2, h .3)
+  answered : (c : Course) (rows : ℕ) (t q : Float) (m searched : ℕ) (w : List Float) → Swept c (d .n) rows t q m w
+      → FitAnswered (answerOf (endingOf (sweepAt c rows t q m) (d .n)) b (searched + m)) solve b searched rows (d .n)
+  unfolding endingOf range
+  answered Going rows t q m searched w (e, f, h, c, a, g) = inr (e, decided q t (searched + m) ∙ rw (sub-zero, c, a, g))
+  answered (Stopped r) rows t q m searched w h = inl (h .0, r, h .1, ap (λ (k : ℕ). answerOf (criterion.Refused r) b (searched + k)) (h .4))
 
--- a final fit of the data d at the bandwidth b
-pub record Finished (d : Data) (o : GwrOptions) (b : GwrBandwidth) (out : List Float) (f : Fit × List Float) : Type 0 where
-  pub answered : FitAnswered (f .0 .answer) (λ (i : ℕ). solveLocation d (o .kernel) b i .outcome) (f .0 .rows) (d .n)
+  left-of : (c : Course) (rows : ℕ) (t q : Float) (m : ℕ) (w : List Float) → Swept c (d .n) rows t q m w → Before rows w × Left rows w
+  left-of Going rows t q m w h = (h .1, h .2)
+  left-of (Stopped r) rows t q m w h = (h .2, h .3)
+
+-- a final fit of the data d at the bandwidth b, after the search's solves
+pub record Finished (d : Data) (o : GwrOptions) (b : GwrBandwidth) (searched : ℕ) (out : List Float) (f : Fit × List Float) : Type 0 where
+  pub answered : FitAnswered (f .0 .answer) (λ (i : ℕ). solveLocation d (o .kernel) b i .outcome) b searched (f .0 .rows) (d .n)
   pub written : (i : ℕ) → i < f .0 .rows → Written (solveLocation d (o .kernel) b i) (d .p) (take (d .p + 4) (drop (i * (d .p + 4)) (f .1)))
   pub untouched : let from = f .0 .rows * (d .p + 4) in drop from (f .1) ≡ drop from out
   pub long : length (f .1) ≡ length out
 
-pub final-finished : (d : Data) (o : GwrOptions) (b : GwrBandwidth) (before : ℕ) (out : List Float) → d .n * (d .p + 4) ≤ length out → d .p ≤ 7
-    → Finished d o b out (finalOf d o b before out)
+pub final-finished : (d : Data) (o : GwrOptions) (b : GwrBandwidth) (searched : ℕ) (out : List Float) → d .n * (d .p + 4) ≤ length out → d .p ≤ 7
+    → Finished d o b searched out (finalOf d o b searched out)
 unfolding finalOf
-final-finished d o b before out room narrow =
+final-finished d o b searched out room narrow =
     let s = sweepFinal d (o .kernel) b out in
+    let z = s .0 in
     let h = swept-whole d (o .kernel) b out room narrow in
-    let l = left-of d (o .kernel) b out room narrow (s .0 .course) (s .0 .rows) (s .1) h in
+    let l = left-of d (o .kernel) b out room narrow (z .course) (z .rows) (z .trace) (z .squares) (z .solves) (s .1) h in
     record {
-      answered = answered d (o .kernel) b out room narrow (s .0 .course) (s .0 .rows) (s .0 .trace) (s .0 .squares) (s .0 .solves) before (s .1) h;
+      answered = answered d (o .kernel) b out room narrow (z .course) (z .rows) (z .trace) (z .squares) (z .solves) searched (s .1) h;
       written = l .0;
       untouched = l .1 .0;
       long = l .1 .1;

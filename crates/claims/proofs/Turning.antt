@@ -43,7 +43,8 @@ use Rattle.claims.proofs.Judged.{Tells, AllTell, judged, decides, tells
 use Rattle.claims.proofs.Accepting.{values-tell}
 use Rattle.claims.proofs.Solved.{OutcomeAt, location-at, at-met}
 use Rattle.claims.proofs.Holding.{Holds, held-fit, holds-step, solve-live}
-use Rattle.claims.proofs.Untouched.{Untouched, step-untouched}
+use Rattle.claims.proofs.Untouched.{Kept, front-kept}
+use Rattle.claims.proofs.Lending.{Untouched, step-untouched}
 
 -- ---- 19: the tests of a record say that it is fit
 
@@ -224,33 +225,35 @@ module _ (j : Job) (coords x y out : List Float) (a : ℕ) where
 
   -- every state of its run
   abbrev Well : State → Type 0
-  Well s = Holds (j .setup) (length out) s × Untouched (j .setup) out s × StageMet (s .0 .stage)
+  Well s = Holds (j .setup) (length out) s × Untouched out s × StageMet (s .0 .stage) × Kept j out s
 
-  served : judge tests ≡ check.Pass → TurnServed (j .setup .p) out a (runOf j coords x y out a)
+  served : judge tests ≡ check.Pass → TurnServed j out a (runOf j coords x y out a)
   unfolding runOf turnTests
   served h =
       let z = turn-passed j coords x y (length out) h in
       let live : endedAt (j .stage) ≡ false = pass-head _ _ _ (pass-head _ _ _ h .1) .0 in
       let u = j .setup in
       let start : Well (j, out) =
-      (record { setup = refl; held = subst⁻¹ (λ (k : ℕ). Sound k j) (solve-live (j .stage) live) (z .0); length-is = refl }, refl, live-met (j .stage) live) in
+      (record { setup = refl; held = subst⁻¹ (λ (k : ℕ). Sound k j) (solve-live (j .stage) live) (z .0); length-is = refl }, refl, live-met (j .stage) live, (omega arith, refl)) in
       let keep : (s : State) → overOf s ≡ false → Well s → Well (stepOf d s) =
-      λ s l w. (holds-step d u (length out) s (z .2) (w .0) l, step-untouched d u (length out) out s (z .2) (w .0) l (w .1), unfold stepOf in step-met d (s .0) (w .2)) in
+      λ s l w. (holds-step d u (length out) s (z .2) (w .0) l, step-untouched d u (length out) (z .2) out s (w .0) l (w .1), unfold stepOf in step-met d (s .0) (w .2), front-kept d j out s (z .2) (w .0) l (w .3)) in
       let r = run (stepOf d) overOf a (j, out) in
       let w : Well (r .0) = run-keeps (stepOf d) overOf Well keep a (j, out) start in
       record {
         answered = told (r .0 .0 .stage) (r .0 .0 .bandwidth) (r .0 .0 .solves) (w .2);
         steps = run-few (stepOf d) overOf a (j, out);
         job = fit-record (r .0 .0) (held-fit (r .0 .0) (w .0 .held));
+        setup = w .0 .setup;
+        kept = w .3 .1;
         untouched = w .1;
         long = w .0 .length-is;
       }
 
   pub turn-decides : Decides (turnConditions j coords x y (length out))
       (λ (r : Refusal). turnOf j coords x y out a ≡ (record { answer = answer.Refused r; steps = 0; job = j }, out))
-      (TurnServed (j .setup .p) out a (turnOf j coords x y out a))
+      (TurnServed j out a (turnOf j coords x y out a))
   unfolding turnOf
   turn-decides =
       decides _ (judge tests) (judged tests _ turns-tell) _ _
       (λ r e. ap (λ (k : Check). turnWith k j coords x y out a) e)
-      (λ e. subst⁻¹ (λ (k : Check). TurnServed (j .setup .p) out a (turnWith k j coords x y out a)) e (served e))
+      (λ e. subst⁻¹ (λ (k : Check). TurnServed j out a (turnWith k j coords x y out a)) e (served e))

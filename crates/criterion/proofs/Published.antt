@@ -1,25 +1,27 @@
--- `correctedAic` is the published AICc with each operation rounded once, in 000's order, off three spots, and what it is at each of them. The exact formula on fractions, and that an operation of binary64 is that of fractions, rounded once. Assumes nothing.
+-- `correctedAic` is the published AICc with each operation rounded once, in 000's order, off three spots, and what it is at each of them. The formula on exact fractions. Assumes nothing.
 use mathlib.Core.Path.{_≡_, refl, ap, sym, subst, _∙_}
 use mathlib.Core.Logic.{_⊎_, inl, inr}
-use mathlib.Core.Bool.{Bool, true, false, not, cond, Bool·beq, _&&_, _||_}
-use Prim.Native.Nat.{ℕ, _+_, _-_, _*_, _<_}
+use mathlib.Core.Bool.{Bool, true, false, not, _&&_, _||_}
+use Prim.Native.Nat.{ℕ}
 use native.Mathlib.Nat.{mul-assoc, mul-left-comm}
-use lib.Dec.{T, ltb}
+use lib.Dec.{T}
 use lib.IntN.{negsuc}
-use lib.Ieee.{Float, nan, inf, fin, binary64, up, down, unlike, round, sum, add, sub, neg, lt, le, eq, fits, isNan, ofBits, mul, div}
+use lib.Ieee.{Float, nan, inf, fin, binary64, unlike, lt, le, eq, fits, isNan, ofBits, mul, div}
 use lib.Ieee.Fits.{div-fits, mul-fits}
 use lib.Ieee.Bits.{is-true, is-false}
 use lib.Ieee.Scale.{finite}
-use lib.Ieee.Positive.{num}
 use Rattle.real.specs.Reals.{zero64}
-use Rattle.real.proofs.SignedOrder.{le-tr, nlt→le, div-opened}
+use Rattle.real.specs.Fractions.{Fraction, fraction, fractionOf, product, quotient}
+use Rattle.real.proofs.SignedOrder.{le-tr, nlt→le}
 use Rattle.root.specs.Root.{root, inf64}
-use Rattle.root.proofs.Nearest.{NearestRoot, root-nearest, root-of-negative}
-use Rattle.elementary.proofs.LnRange.{LnFinite, ln-finite}
+use Rattle.root.specs.Nearest.{NearestRoot}
+use Rattle.root.proofs.Nearest.{root-nearest, root-of-negative}
+use Rattle.elementary.specs.LnSteps.{LnFinite}
+use Rattle.elementary.proofs.LnRange.{ln-finite}
 use Rattle.refusal.specs.declared.Refusal.the-variants.{DeviationNotFinite}
 use Rattle.criterion.specs.declared.Criterion.the-variants.{Value, Refused}
 use Rattle.criterion.specs.Aicc.{two64, pi64, realOf, leastNormal, deviation, floored, freedom, exhausted, terms, criterionOf, correctedAic}
-use Rattle.criterion.specs.Published.{Arithmetic, sigmaOf, published, formula, rounded, Fraction, fraction, joined, total, difference, product, quotient, exact, fractionOf, nearest64}
+use Rattle.criterion.specs.Published.{Arithmetic, sigmaOf, published, formula, rounded, exact}
 
 -- ---- a finite root: of a zero, which is its own root, or of a positive number
 below-infinity : (x : Float) → T (finite x) → lt x (inf false) ≡ true
@@ -100,48 +102,12 @@ change-places (fraction s a c) (fraction t b d) (fraction u e f) = rw (unlike-as
 pub published-exact : (pi : Fraction) (root ln : Fraction → Fraction) (n sigma trace : Fraction) → published (exact pi root ln) n sigma trace ≡ formula (exact pi root ln) n sigma trace
 published-exact pi root ln n sigma trace = published-order (exact pi root ln) change-places n sigma trace
 
--- ---- an operation of `rounded` is that of `exact`, rounded once to the nearest; the root's rounding is `root-nearest`
-nearest-cond : (b : Bool) (x y : Fraction) → nearest64 (cond b x y) ≡ cond b (nearest64 x) (nearest64 y)
-nearest-cond true x y = refl
-nearest-cond false x y = refl
+-- the constant 2 needs no rounding
+pub two-exact : fractionOf two64 ≡ fraction false 2 1
+unfolding ofBits
+two-exact = refl
 
-sum-once : (s t : Bool) (a b c : ℕ) → sum binary64 s a t b c ≡ nearest64 (joined s a t b c)
-unfolding sum
-sum-once s t a b c =
-    sym (nearest-cond (Bool·beq s t) (fraction s (a + b) c) (cond (ltb a b) (fraction t (b - a) c) (fraction (s && ltb b a) (a - b) c))
-    ∙ ap (cond (Bool·beq s t) (round binary64 s (a + b) c)) (nearest-cond (ltb a b) (fraction t (b - a) c) (fraction (s && ltb b a) (a - b) c)))
-
-pub plus-once : (x y : Float) → T (finite x) → T (finite y) → rounded .plus x y ≡ nearest64 (total (fractionOf x) (fractionOf y))
-unfolding add
-plus-once nan y p q = absurd p
-plus-once (inf s) y p q = absurd p
-plus-once (fin s m e) nan p q = absurd q
-plus-once (fin s m e) (inf t) p q = absurd q
-plus-once (fin s m e) (fin t n d) p q = sum-once s t (m * up e * down d) (n * up d * down e) (down e * down d)
-
-pub minus-once : (x y : Float) → T (finite x) → T (finite y) → rounded .minus x y ≡ nearest64 (difference (fractionOf x) (fractionOf y))
-unfolding sub add neg
-minus-once nan y p q = absurd p
-minus-once (inf s) y p q = absurd p
-minus-once (fin s m e) nan p q = absurd q
-minus-once (fin s m e) (inf t) p q = absurd q
-minus-once (fin s m e) (fin t n d) p q = sum-once s (not t) (m * up e * down d) (n * up d * down e) (down e * down d)
-
-pub times-once : (x y : Float) → T (finite x) → T (finite y) → rounded .times x y ≡ nearest64 (product (fractionOf x) (fractionOf y))
-unfolding mul
-times-once nan y p q = absurd p
-times-once (inf s) y p q = absurd p
-times-once (fin s m e) nan p q = absurd q
-times-once (fin s m e) (inf t) p q = absurd q
-times-once (fin s m e) (fin t n d) p q = refl
-
--- by a number other than 0
-pub over-once : (x y : Float) → T (finite x) → T (finite y) → 0 < num y → rounded .over x y ≡ nearest64 (quotient (fractionOf x) (fractionOf y))
-over-once nan y p q h = absurd p
-over-once (inf s) y p q h = absurd p
-over-once (fin s m e) nan p q h = absurd q
-over-once (fin s m e) (inf t) p q h = absurd q
-over-once (fin s m e) (fin t n d) p q h = div-opened binary64 (fin s m e) (fin t n d) p q h
+-- ---- the numbers that ln is asked of
 
 -- ln 2π, worked out from finite steps
 in-normal : T (le leastNormal (mul binary64 two64 pi64)) × T (lt (mul binary64 two64 pi64) (inf false))

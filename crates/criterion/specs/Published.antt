@@ -1,8 +1,7 @@
 -- AICc of Fotheringham, Brunsdon and Charlton 2002 as a formula over any arithmetic: that of binary64, which rounds each operation once, and the exact one of fractions. Definitions only.
-use mathlib.Core.Bool.{Bool, false, not, cond, Bool·beq, _&&_}
-use Prim.Native.Nat.{ℕ, _+_, _-_, _*_}
-use lib.Dec.{ltb}
-use lib.Ieee.{Float, nan, inf, fin, binary64, up, down, round, add, sub, mul, div, unlike}
+use mathlib.Core.Bool.{false}
+use lib.Ieee.{Float, binary64, add, sub, mul, div}
+use Rattle.real.specs.Fractions.{Fraction, fraction, total, difference, product, quotient}
 use Rattle.root.specs.Root.{root}
 use Rattle.elementary.specs.Ln.{lnv}
 use Rattle.criterion.specs.Aicc.{two64, pi64}
@@ -48,27 +47,7 @@ rounded =
       ln = lnv;
     }
 
--- ---- fractions of whole numbers: nothing is rounded
-
--- a / c, negative where the sign is set
-pub data Fraction : Type 0 where
-  fraction : Bool → ℕ → ℕ → Fraction
-
--- a/c + b/c of these signs; a sum of nothing has a sign only where both have
-abbrev pub joined : Bool → ℕ → Bool → ℕ → ℕ → Fraction
-joined s a t b c = cond (Bool·beq s t) (fraction s (a + b) c) (cond (ltb a b) (fraction t (b - a) c) (fraction (s && ltb b a) (a - b) c))
-
-abbrev pub total : Fraction → Fraction → Fraction
-total (fraction s a c) (fraction t b d) = joined s (a * d) t (b * c) (c * d)
-
-abbrev pub difference : Fraction → Fraction → Fraction
-difference (fraction s a c) (fraction t b d) = joined s (a * d) (not t) (b * c) (c * d)
-
-abbrev pub product : Fraction → Fraction → Fraction
-product (fraction s a c) (fraction t b d) = fraction (unlike s t) (a * b) (c * d)
-
-abbrev pub quotient : Fraction → Fraction → Fraction
-quotient (fraction s a c) (fraction t b d) = fraction (unlike s t) (a * d) (b * c)
+-- ---- fractions: nothing is rounded
 
 -- with any number for π, and any functions for the root and ln, which a fraction need not have
 abbrev pub exact : Fraction → (Fraction → Fraction) → (Fraction → Fraction) → Arithmetic Fraction
@@ -83,13 +62,3 @@ exact pi root ln =
       squareRoot = root;
       ln = ln;
     }
-
--- a finite number as a fraction
-abbrev pub fractionOf : Float → Fraction
-fractionOf nan = fraction false 0 1
-fractionOf (inf s) = fraction false 0 1
-fractionOf (fin s m e) = fraction s (m * up e) (down e)
-
--- the binary64 nearest to a fraction, ties to the even last bit
-abbrev pub nearest64 : Fraction → Float
-nearest64 (fraction s a c) = round binary64 s a c

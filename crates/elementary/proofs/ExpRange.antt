@@ -11,7 +11,8 @@ use lib.Ieee.{Float, nan, inf, fin, binary64, add, mul, neg, lt, le, eq, ofBits,
 use lib.Ieee.Fits.{and-l, and-r}
 use lib.Ieee.Bits.{is-true}
 use lib.Ieee.Scale.{finite}
-use Rattle.real.proofs.SignedOrder.{le-tr, le-total, neg-anti, natural, nat-fin, add-mono, mul-smono, mul-nmono, mag, mag-of, in-fin, above-nat, toUnsigned-mono, lt-of-not-le, nlt→le, le-self, neg-finite, zero-times}
+use Rattle.real.specs.Reals.{magnitude}
+use Rattle.real.proofs.SignedOrder.{le-tr, le-total, neg-anti, natural, nat-fin, add-mono, mul-smono, mul-nmono, mag-of, in-fin, above-nat, toUnsigned-mono, lt-of-not-le, nlt→le, le-self, neg-finite, zero-times}
 use Rattle.exponent_table.specs.Reduction.{INV, one, half, nought, floor708, uncut, expK, expRest, twoToMinus}
 use Rattle.elementary.specs.Exp.{expSteps, expNear, expv}
 use Rattle.elementary.proofs.StepsRange.{threeHalves, R35-nat, s-in, s-neg}
@@ -191,7 +192,7 @@ module _ (v : Float) (low : T (le floor708 v)) (high : T (le v nought)) where
   pub r-fin : (k : ℕ) → expK v ≡ k → T (finite (expRest v k))
   r-fin k e = in-fin (neg R35) (expRest v k) R35 (neg-finite R35 (nat-fin R35 R35-nat)) (nat-fin R35 R35-nat) (r-low k e) (r-high k e)
 
-  pub r-mag : (k : ℕ) → expK v ≡ k → T (le (mag (expRest v k)) R35)
+  pub r-mag : (k : ℕ) → expK v ≡ k → T (le (magnitude (expRest v k)) R35)
   r-mag k e = mag-of (expRest v k) R35 (r-fin k e) R35-nat (r-low k e) (r-high k e)
 
   pub s-nat : (k : ℕ) → expK v ≡ k → T (natural (expSteps 13 (expRest v k) one))

@@ -15,72 +15,13 @@ use lib.Ieee.Bits.{is-true, is-false}
 use lib.Ieee.Order.{le-of-values, round-mono}
 use lib.Ieee.Scale.{finite}
 use lib.Ieee.Positive.{num, den, den-pos, positive, own-value, value-pos, between}
-use Rattle.real.proofs.SignedOrder.{sgn, le→sle, le-tr, le-total, natural, nat-fin, nat-sgn, sgn-natural, nat-above, add-mono, sub-opened, neg-finite, mul-by, mul-smono, mul-nmono, mul-mag, div-by, div-smono, div-mag, mag, mag-in, mag-of, mag-finite, mag-self, mag-nat, in-fin, above-nat, le-self, round-mag, round-sgn, square-mag, here-or-on}
+use Rattle.real.specs.Reals.{magnitude}
+use Rattle.real.proofs.SignedOrder.{sgn, le→sle, le-tr, le-total, natural, nat-fin, nat-sgn, sgn-natural, nat-above, add-mono, sub-opened, neg-finite, mul-by, mul-smono, mul-nmono, mul-mag, div-by, div-smono, div-mag, mag-in, mag-of, mag-finite, mag-self, mag-nat, in-fin, above-nat, le-self, round-mag, round-sgn, square-mag, here-or-on}
 use Rattle.exponent_table.specs.Reduction.{HI, LO, one, half, nought}
 use Rattle.exponent_table.proofs.Tests.{allb, All, all→}
 use Rattle.elementary.specs.Ln.{two, threeHalves, leastNormal, mantissa, exponent, lnStep, lnSteps, lnSeries, lnAnswer, lnSplit, lnParts, lnv}
-use Rattle.elementary.proofs.SplitExact.{SplitAs, split-exact}
-
--- ---- the claim
-
--- s, and what the n steps from it work out: 1/j, w·s and the next s
-abbrev pub StepsFinite : ℕ → Float → Float → Type 0
-StepsFinite zero w s = T (finite s)
-StepsFinite (suc n) w s = T (finite s) × T (finite (div binary64 one (ofInt binary64 (pos (2 * n + 1))))) × T (finite (mul binary64 w s)) × StepsFinite n w (lnStep w s (2 * n + 1))
-
-abbrev pub quarter : Float
-quarter = fin false 1 (negsuc 1)
-
--- 1/16
-abbrev pub sixteenth : Float
-sixteenth = fin false 1 (negsuc 3)
-
--- 33/32
-abbrev pub top : Float
-top = fin false 33 (negsuc 4)
-
-abbrev pub most : Float
-most = fin false 711 (pos 0)
-
--- (m - 1)/(m + 1)
-abbrev pub zOf : Float → Float
-zOf m = div binary64 (sub binary64 m one) (add binary64 m one)
-
-abbrev pub wOf : Float → Float
-wOf m = mul binary64 (zOf m) (zOf m)
-
--- what `lnSplit m e` works out
-pub record SplitFinite (m e : Float) : Type 0 where
-  pub less-one : T (finite (sub binary64 m one))
-  pub and-one : T (finite (add binary64 m one))
-  pub z : T (finite (zOf m))
-  pub z-in : T (le (mag (zOf m)) quarter)
-  pub w : T (finite (wOf m))
-  pub w-low : T (le nought (wOf m))
-  pub w-high : T (le (wOf m) sixteenth)
-  pub steps : StepsFinite 11 (wOf m) (div binary64 one (ofInt binary64 (pos 23)))
-  pub s-low : T (le one (lnSeries (wOf m)))
-  pub s-high : T (le (lnSeries (wOf m)) top)
-  pub twice : T (finite (mul binary64 two (zOf m)))
-  pub product : T (finite (mul binary64 (mul binary64 two (zOf m)) (lnSeries (wOf m))))
-  pub high-part : T (finite (mul binary64 e HI))
-  pub low-part : T (finite (mul binary64 e LO))
-  pub inner : T (finite (add binary64 (mul binary64 (mul binary64 two (zOf m)) (lnSeries (wOf m))) (mul binary64 e LO)))
-  pub answer : T (finite (lnSplit m e))
-  pub answer-in : T (le (mag (lnSplit m e)) most)
-
--- what `lnv v` works out
-pub record LnFinite (v : Float) : Type 0 where
-  pub m : T (finite (mantissa v))
-  pub m-low : T (le one (mantissa v))
-  pub m-high : T (le (mantissa v) two)
-  pub e : T (finite (ofInt binary64 (exponent v)))
-  pub halved : T (finite (mul binary64 (mantissa v) half))
-  pub raised : T (finite (add binary64 (ofInt binary64 (exponent v)) one))
-  pub upper : T (le threeHalves (mantissa v)) → SplitFinite (mul binary64 (mantissa v) half) (add binary64 (ofInt binary64 (exponent v)) one)
-  pub lower : T (not (le threeHalves (mantissa v))) → SplitFinite (mantissa v) (ofInt binary64 (exponent v))
-  pub answer : T (finite (lnv v))
-  pub answer-in : T (le (mag (lnv v)) most)
+use Rattle.elementary.specs.LnSteps.{SplitAs, StepsFinite, quarter, sixteenth, top, most, zOf, wOf, SplitFinite, LnFinite}
+use Rattle.elementary.proofs.SplitExact.{split-exact}
 
 -- ---- laws that SignedOrder lacks
 num-of : (x : Float) → T (positive x) → 0 < num x
@@ -122,11 +63,11 @@ mul-nat : (x y Z : Float) → T (natural x) → T (natural y) → T (natural Z) 
 mul-nat x y Z n k N h =
     let e = mul-by binary64 x y (nat-fin x n) k in
     let s = ap sgn e ∙ round-sgn binary64 (sgn x) (num x * num y) (den x * den y) ∙ nat-sgn x n in
-    sgn-natural (mul binary64 x y) (mag-finite (mul binary64 x y) Z N (subst (λ (t : Float). T (le t Z)) (sym (mul-mag binary64 x y (nat-fin x n) (nat-fin y k) ∙ ap (λ (t : Float). mul binary64 t (mag y)) (mag-self x n) ∙ ap (mul binary64 x) (mag-self y k))) h)) s
+    sgn-natural (mul binary64 x y) (mag-finite (mul binary64 x y) Z N (subst (λ (t : Float). T (le t Z)) (sym (mul-mag binary64 x y (nat-fin x n) (nat-fin y k) ∙ ap (λ (t : Float). mul binary64 t (magnitude y)) (mag-self x n) ∙ ap (mul binary64 x) (mag-self y k))) h)) s
 
 -- |x + y| ≤ X + Y
-add-mag : (x y X Y : Float) → T (finite x) → T (finite y) → T (natural X) → T (natural Y) → T (natural (add binary64 X Y)) → T (le (neg (add binary64 X Y)) (add binary64 (neg X) (neg Y))) → T (le (mag x) X) → T (le (mag y) Y)
-    → T (finite (add binary64 x y)) × T (le (mag (add binary64 x y)) (add binary64 X Y))
+add-mag : (x y X Y : Float) → T (finite x) → T (finite y) → T (natural X) → T (natural Y) → T (natural (add binary64 X Y)) → T (le (neg (add binary64 X Y)) (add binary64 (neg X) (neg Y))) → T (le (magnitude x) X) → T (le (magnitude y) Y)
+    → T (finite (add binary64 x y)) × T (le (magnitude (add binary64 x y)) (add binary64 X Y))
 add-mag x y X Y fx fy NX NY NS ends hx hy =
     let a = mag-in x X fx NX hx in
     let b = mag-in y Y fy NY hy in
@@ -137,10 +78,10 @@ add-mag x y X Y fx fy NX NY NS ends hx hy =
     (f, mag-of (add binary64 x y) S f NS low high)
 
 -- |x·y| ≤ X·Y
-mul-mags : (x y X Y : Float) → T (finite x) → T (finite y) → T (natural X) → T (natural Y) → T (natural (mul binary64 X Y)) → T (le (mag x) X) → T (le (mag y) Y)
-    → T (finite (mul binary64 x y)) × T (le (mag (mul binary64 x y)) (mul binary64 X Y))
+mul-mags : (x y X Y : Float) → T (finite x) → T (finite y) → T (natural X) → T (natural Y) → T (natural (mul binary64 X Y)) → T (le (magnitude x) X) → T (le (magnitude y) Y)
+    → T (finite (mul binary64 x y)) × T (le (magnitude (mul binary64 x y)) (mul binary64 X Y))
 mul-mags x y X Y fx fy NX NY NM hx hy =
-    let h = subst (λ (t : Float). T (le t (mul binary64 X Y))) (sym (mul-mag binary64 x y fx fy)) (mul-nmono binary64 (mag x) X (mag y) Y (mag-nat x fx) NX (mag-nat y fy) NY hx hy) in
+    let h = subst (λ (t : Float). T (le t (mul binary64 X Y))) (sym (mul-mag binary64 x y fx fy)) (mul-nmono binary64 (magnitude x) X (magnitude y) Y (mag-nat x fx) NX (mag-nat y fy) NY hx hy) in
     (mag-finite (mul binary64 x y) (mul binary64 X Y) NM h, h)
 
 -- ---- the series on 0 ≤ w ≤ 1/16
@@ -235,10 +176,10 @@ abbrev closedTests : List Bool
 closedTests =
     natural (mul binary64 two quarter) ∷ natural P2 ∷ natural HI ∷ natural LO ∷ natural PH ∷ natural PL ∷ natural PI ∷ natural PA
     ∷ le (neg PI) (add binary64 (neg P2) (neg PL)) ∷ le (neg PA) (add binary64 (neg PH) (neg PI)) ∷ le PA most
-    ∷ le (mag two) two ∷ le (mag HI) HI ∷ le (mag LO) LO ∷ natural (mul binary64 quarter quarter) ∷ le (mul binary64 quarter quarter) sixteenth ∷ []
+    ∷ le (magnitude two) two ∷ le (magnitude HI) HI ∷ le (magnitude LO) LO ∷ natural (mul binary64 quarter quarter) ∷ le (mul binary64 quarter quarter) sixteenth ∷ []
 
 closed-test : T (allb closedTests)
-unfolding add mul neg le mag ofBits
+unfolding add mul neg le magnitude ofBits
 closed-test = tt
 
 closed : All closedTests
@@ -254,7 +195,7 @@ intervalTests lo hi A L =
     finite lo ∷ finite hi ∷ natural A ∷ finite (sub binary64 lo one) ∷ finite (sub binary64 hi one) ∷ le (neg A) (add binary64 lo (neg one)) ∷ le (add binary64 hi (neg one)) A
     ∷ positive L ∷ le L (add binary64 lo one) ∷ positive (add binary64 hi one) ∷ finite (div binary64 A L) ∷ le (div binary64 A L) quarter ∷ []
 
-module _ (lo hi A L : Float) (ok : All (intervalTests lo hi A L)) (m e : Float) (low : T (le lo m)) (high : T (le m hi)) (fe : T (finite e)) (he : T (le (mag e) exponents)) where
+module _ (lo hi A L : Float) (ok : All (intervalTests lo hi A L)) (m e : Float) (low : T (le lo m)) (high : T (le m hi)) (fe : T (finite e)) (he : T (le (magnitude e) exponents)) where
   fin-m : T (finite m)
   fin-m = in-fin lo m hi (ok .0) (ok .1 .0) low high
 
@@ -285,15 +226,15 @@ module _ (lo hi A L : Float) (ok : All (intervalTests lo hi A L)) (m e : Float) 
   more-positive : T (positive (add binary64 m one))
   more-positive = between L (add binary64 m one) (add binary64 hi one) pos-L (ok .1 .1 .1 .1 .1 .1 .1 .1 .1 .0) more-low (add-mono binary64 m hi one one fin-m (ok .1 .0) tt tt high (le-self one tt))
 
-  z-mag : T (le (mag (zOf m)) quarter)
+  z-mag : T (le (magnitude (zOf m)) quarter)
   z-mag =
       let a = sub binary64 m one in
       let b = add binary64 m one in
       let nb = positive-nat b more-positive in
       let na = mag-nat a fin-less in
       subst (λ (t : Float). T (le t quarter)) (sym (div-mag binary64 a b fin-less nb (num-of b more-positive)))
-      (le-tr (div binary64 (mag a) b) (div binary64 A b) quarter
-      (div-smono binary64 (mag a) A b (nat-fin (mag a) na) (nat-fin A nat-A) nb (num-of b more-positive) (mag-of a A fin-less nat-A less-low less-high))
+      (le-tr (div binary64 (magnitude a) b) (div binary64 A b) quarter
+      (div-smono binary64 (magnitude a) A b (nat-fin (magnitude a) na) (nat-fin A nat-A) nb (num-of b more-positive) (mag-of a A fin-less nat-A less-low less-high))
       (le-tr (div binary64 A b) (div binary64 A L) quarter (div-anti A b L nat-A more-positive pos-L more-low) (ok .1 .1 .1 .1 .1 .1 .1 .1 .1 .1 .1 .0)))
 
   z-fin : T (finite (zOf m))
@@ -335,7 +276,7 @@ module _ (lo hi A L : Float) (ok : All (intervalTests lo hi A L)) (m e : Float) 
         low-part = el .0;
         inner = inn .0;
         answer = subst (λ (x : Float). T (finite x)) (sym (split-is m e)) (ans .0);
-        answer-in = subst (λ (x : Float). T (le (mag x) most)) (sym (split-is m e)) (le-tr (mag (add binary64 (mul binary64 e HI) (add binary64 (mul binary64 (mul binary64 two z) s) (mul binary64 e LO)))) PA most (ans .1) (c10 .0));
+        answer-in = subst (λ (x : Float). T (le (magnitude x) most)) (sym (split-is m e)) (le-tr (magnitude (add binary64 (mul binary64 e HI) (add binary64 (mul binary64 (mul binary64 two z) s) (mul binary64 e LO)))) PA most (ans .1) (c10 .0));
       }
 
 -- ---- the two intervals
@@ -358,12 +299,12 @@ widest-is : round binary64 false 1023 1 ≡ widest
 unfolding round
 widest-is = refl
 
-bounded : (s : Bool) (n : ℕ) → n ≤ 1023 → T (le (mag (round binary64 s n 1)) widest)
+bounded : (s : Bool) (n : ℕ) → n ≤ 1023 → T (le (magnitude (round binary64 s n 1)) widest)
 bounded s n h =
     subst (λ (t : Float). T (le t widest)) (sym (round-mag binary64 s n 1))
     (subst (λ (t : Float). T (le (round binary64 false n 1) t)) widest-is (round-mono binary64 n 1 1023 1 (lit< tt) (lit< tt) (mul-le-mul-right 1 h)))
 
-exponent-in : (x : ℕ) → 1 ≤ x → x ≤ 2046 → T (le (mag (ofInt binary64 (minus x 1023))) widest)
+exponent-in : (x : ℕ) → 1 ≤ x → x ≤ 2046 → T (le (magnitude (ofInt binary64 (minus x 1023))) widest)
 unfolding ofInt
 exponent-in x a b =
     elim (here-or-on x 1023) [
@@ -374,10 +315,10 @@ exponent-in x a b =
 abbrev raisedTests : List Bool
 raisedTests =
     natural (add binary64 widest one) ∷ le (neg (add binary64 widest one)) (add binary64 (neg widest) (neg one)) ∷ le (add binary64 widest one) exponents ∷ le widest exponents
-    ∷ le (mag one) one ∷ finite (mul binary64 one half) ∷ finite (mul binary64 two half) ∷ le (fin false 3 (negsuc 1)) (mul binary64 threeHalves half) ∷ le (mul binary64 two half) one ∷ []
+    ∷ le (magnitude one) one ∷ finite (mul binary64 one half) ∷ finite (mul binary64 two half) ∷ le (fin false 3 (negsuc 1)) (mul binary64 threeHalves half) ∷ le (mul binary64 two half) one ∷ []
 
 raised-test : T (allb raisedTests)
-unfolding add mul neg le mag
+unfolding add mul neg le magnitude
 raised-test = tt
 
 number : (x : Float) → T (finite x) → T (not (isNan x))
@@ -405,13 +346,13 @@ module _ (v : Float) (F : T (fits binary64 v)) (low : T (le leastNormal v)) (hig
   abbrev e-of : Float
   e-of = ofInt binary64 (exponent v)
 
-  e-in : T (le (mag e-of) widest)
-  e-in = subst (λ (z : ℤ). T (le (mag (ofInt binary64 z)) widest)) (sym (split .exponent-is)) (exponent-in (toBits binary64 v / 2 ^ 52) (split .field-low) (split .field-high))
+  e-in : T (le (magnitude e-of) widest)
+  e-in = subst (λ (z : ℤ). T (le (magnitude (ofInt binary64 z)) widest)) (sym (split .exponent-is)) (exponent-in (toBits binary64 v / 2 ^ 52) (split .field-low) (split .field-high))
 
   e-fin : T (finite e-of)
   e-fin = mag-finite e-of widest tt e-in
 
-  e-raised : T (finite (add binary64 e-of one)) × T (le (mag (add binary64 e-of one)) (add binary64 widest one))
+  e-raised : T (finite (add binary64 e-of one)) × T (le (magnitude (add binary64 e-of one)) (add binary64 widest one))
   e-raised = add-mag e-of one widest one e-fin tt tt tt (tests .0) (tests .1 .0) e-in (tests .1 .1 .1 .1 .0)
 
   halved-fin : T (finite (mul binary64 (mantissa v) half))
@@ -426,7 +367,7 @@ module _ (v : Float) (F : T (fits binary64 v)) (low : T (le leastNormal v)) (hig
       split-finite (fin false 3 (negsuc 1)) one quarter (fin false 7 (negsuc 1)) (all→ (intervalTests (fin false 3 (negsuc 1)) one quarter (fin false 7 (negsuc 1))) upper-tests) m (add binary64 e-of one)
       (le-tr (fin false 3 (negsuc 1)) (mul binary64 threeHalves half) m (t .0) (mul-smono binary64 threeHalves (mantissa v) half tt m-fin tt h))
       (le-tr m (mul binary64 two half) one (mul-smono binary64 (mantissa v) two half m-fin tt tt m-high) (t .1 .0))
-      (e-raised .0) (le-tr (mag (add binary64 e-of one)) (add binary64 widest one) exponents (e-raised .1) (tests .1 .1 .0))
+      (e-raised .0) (le-tr (magnitude (add binary64 e-of one)) (add binary64 widest one) exponents (e-raised .1) (tests .1 .1 .0))
 
   lower-split : T (not (le threeHalves (mantissa v))) → SplitFinite (mantissa v) e-of
   lower-split h =
@@ -435,14 +376,14 @@ module _ (v : Float) (F : T (fits binary64 v)) (low : T (le leastNormal v)) (hig
         | inl k ↦ k
         | inr k ↦ absurd (subst (λ (b : Bool). T (not b)) (is-true (le threeHalves (mantissa v)) k) h)
       ])
-      e-fin (le-tr (mag e-of) widest exponents e-in (tests .1 .1 .1 .0))
+      e-fin (le-tr (magnitude e-of) widest exponents e-in (tests .1 .1 .1 .0))
 
-  answer-of : T (finite (lnv v)) × T (le (mag (lnv v)) most)
+  answer-of : T (finite (lnv v)) × T (le (magnitude (lnv v)) most)
   unfolding lnv lnParts
   answer-of = rw (is-true (le leastNormal v) low, is-true (lt v (inf false)) high) (go (le threeHalves (mantissa v)) (λ t. upper-split t) (λ t. lower-split t))
     where
       go : (b : Bool) → (T b → SplitFinite (mul binary64 (mantissa v) half) (add binary64 e-of one)) → (T (not b) → SplitFinite (mantissa v) e-of)
-          → (let x = cond b (lnSplit (mul binary64 (mantissa v) half) (add binary64 e-of one)) (lnSplit (mantissa v) e-of) in T (finite x) × T (le (mag x) most))
+          → (let x = cond b (lnSplit (mul binary64 (mantissa v) half) (add binary64 e-of one)) (lnSplit (mantissa v) e-of) in T (finite x) × T (le (magnitude x) most))
       go true f g = (f tt .answer, f tt .answer-in)
       go false f g = (g tt .answer, g tt .answer-in)
 

@@ -16,16 +16,7 @@ use lib.Ieee.Fits.{down-pos, kept-lt, and-r}
 use lib.Ieee.Bits.{ofBits-toBits}
 use Rattle.real.proofs.SignedOrder.{le→sle}
 use Rattle.elementary.specs.Ln.{leastNormal, mantissa, exponent}
-
--- v = (n / 2^52)·2^(x - 1023), where m is n / 2^52 and e is x - 1023
-pub record SplitAs (v : Float) (n x : ℕ) : Type 0 where
-  pub low : 2 ^ 52 ≤ n
-  pub high : n < 2 ^ 53
-  pub field-low : 1 ≤ x
-  pub field-high : x ≤ 2046
-  pub mantissa-is : HasValue (mantissa v) false n (2 ^ 52)
-  pub exponent-is : exponent v ≡ minus x 1023
-  pub value-is : HasValue v false (n * 2 ^ x) (2 ^ 1075)
+use Rattle.elementary.specs.LnSteps.{SplitAs}
 
 -- a fraction and its equal
 rescale : (v : Float) (a c b d : ℕ) → 0 < c → b * c ≡ a * d → HasValue v false a c → HasValue v false b d

@@ -10,7 +10,8 @@ use lib.Ieee.{Float, fin, binary64, add, mul, div, neg, le, ofInt, round}
 use lib.Ieee.Fits.{and-l, and-r}
 use lib.Ieee.Scale.{finite}
 use lib.Ieee.Positive.{num, positive}
-use Rattle.real.proofs.SignedOrder.{le-tr, natural, nat-fin, add-mono, mul-smono, mul-nmono, div-smono, mag, mag-in, mag-finite, mag-self, mag-nat, mul-mag, div-mag, above-nat, le-self, zero-times, zero-over, neg-finite}
+use Rattle.real.specs.Reals.{magnitude}
+use Rattle.real.proofs.SignedOrder.{le-tr, natural, nat-fin, add-mono, mul-smono, mul-nmono, div-smono, mag-in, mag-finite, mag-self, mag-nat, mul-mag, div-mag, above-nat, le-self, zero-times, zero-over, neg-finite}
 use Rattle.exponent_table.specs.Reduction.{one, half, nought}
 use Rattle.exponent_table.proofs.Tests.{allb, All, all→}
 use Rattle.exponent_table.proofs.Table.{R35}
@@ -38,23 +39,23 @@ one-nought : add binary64 one nought ≡ one
 unfolding add
 one-nought = refl
 
-module _ (R hi r s : Float) (j : ℕ) (ok : All (stepTests R hi j)) (NR : T (natural R)) (Nh : T (natural hi)) (fr : T (finite r)) (hr : T (le (mag r) R)) (ns : T (natural s)) (hs : T (le s hi)) where
+module _ (R hi r s : Float) (j : ℕ) (ok : All (stepTests R hi j)) (NR : T (natural R)) (Nh : T (natural hi)) (fr : T (finite r)) (hr : T (le (magnitude r) R)) (ns : T (natural s)) (hs : T (le s hi)) where
   -- |r s| ≤ R hi, and |r s / j| ≤ R hi / j
-  mul-in : T (le (mag (mul binary64 r s)) (mul binary64 R hi))
+  mul-in : T (le (magnitude (mul binary64 r s)) (mul binary64 R hi))
   mul-in =
-      subst (λ (w : Float). T (le w (mul binary64 R hi))) (sym (mul-mag binary64 r s fr (nat-fin s ns) ∙ ap (mul binary64 (mag r)) (mag-self s ns)))
-      (mul-nmono binary64 (mag r) R s hi (mag-nat r fr) NR ns Nh hr hs)
+      subst (λ (w : Float). T (le w (mul binary64 R hi))) (sym (mul-mag binary64 r s fr (nat-fin s ns) ∙ ap (mul binary64 (magnitude r)) (mag-self s ns)))
+      (mul-nmono binary64 (magnitude r) R s hi (mag-nat r fr) NR ns Nh hr hs)
 
   mul-fin : T (finite (mul binary64 r s))
   mul-fin = mag-finite (mul binary64 r s) (mul binary64 R hi) (ok .1 .1 .0) mul-in
 
-  quot-in : T (le (mag (quot r s j)) (quot R hi j))
+  quot-in : T (le (magnitude (quot r s j)) (quot R hi j))
   quot-in =
       let J = ofInt binary64 (pos j) in
       let m = mul binary64 r s in
       let pJ : 0 < num J = ltb→lt 0 (num J) (ok .1 .0) in
       subst (λ (w : Float). T (le w (quot R hi j))) (sym (div-mag binary64 m J mul-fin (ok .0) pJ))
-      (div-smono binary64 (mag m) (mul binary64 R hi) J (nat-fin (mag m) (mag-nat m mul-fin)) (nat-fin (mul binary64 R hi) (ok .1 .1 .0)) (ok .0) pJ mul-in)
+      (div-smono binary64 (magnitude m) (mul binary64 R hi) J (nat-fin (magnitude m) (mag-nat m mul-fin)) (nat-fin (mul binary64 R hi) (ok .1 .1 .0)) (ok .0) pJ mul-in)
 
   quot-fin : T (finite (quot r s j))
   quot-fin = mag-finite (quot r s j) (quot R hi j) (ok .1 .1 .1 .0) quot-in
@@ -100,7 +101,7 @@ pub steps-zero : (r s : Float) → expSteps zero r s ≡ s
 unfolding expSteps
 steps-zero r s = refl
 
-module _ (R r : Float) (NR : T (natural R)) (fr : T (finite r)) (hr : T (le (mag r) R)) where
+module _ (R r : Float) (NR : T (natural R)) (fr : T (finite r)) (hr : T (le (magnitude r) R)) where
   steps-in : (j : ℕ) (l hi s : Float) → T (stepsOk j R l hi) → T (natural hi) → T (natural s) → T (le l s) → T (le s hi) → T (le half (expSteps j r s)) × T (le (expSteps j r s) threeHalves)
   steps-in zero l hi s ok Nh ns hl hs = (
     subst (λ (w : Float). T (le half w)) (sym (steps-zero r s)) (le-tr half l s (and-l (le half l) (le hi threeHalves) ok) hl),
@@ -133,8 +134,8 @@ thirteen : T (stepsOk 13 R35 one one)
 unfolding round add mul div neg ofInt le
 thirteen = tt
 
-pub s-in : (r : Float) → T (finite r) → T (le (mag r) R35) → T (le half (expSteps 13 r one)) × T (le (expSteps 13 r one) threeHalves)
+pub s-in : (r : Float) → T (finite r) → T (le (magnitude r) R35) → T (le half (expSteps 13 r one)) × T (le (expSteps 13 r one) threeHalves)
 s-in r fr hr = steps-in R35 r R35-nat fr hr 13 one one one thirteen tt tt (le-self one tt) (le-self one tt)
 
-pub s-neg : (r : Float) → T (finite r) → T (le (mag r) R35) → T (le r nought) → T (le (expSteps 13 r one) one)
+pub s-neg : (r : Float) → T (finite r) → T (le (magnitude r) R35) → T (le r nought) → T (le (expSteps 13 r one) one)
 s-neg r fr hr r0 = steps-neg R35 r R35-nat fr hr 12 one one one thirteen tt tt (le-self one tt) r0

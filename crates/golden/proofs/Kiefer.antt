@@ -1,23 +1,24 @@
 -- Kiefer's search as specs/Kiefer states it. Each round is one of his. Every new point lies in the part kept, rounding included. A round that begins in order narrows the bracket; no
--- later bracket or point leaves one that holds its own points. The answer is a point tried: that it is the earliest of those with the least score is `golden-best` of crates/claims/proofs/Best.
-use mathlib.Core.Path.{_≡_, refl, _∙_}
-use mathlib.Core.Bool.{Bool, true, false, cond}
+-- later bracket or point leaves one that holds its own points. The bottom of a valley stays in the bracket. The answer is a point tried: that it is the earliest of those with the
+-- least score is `golden-best` of crates/claims/proofs/Best.
+use mathlib.Core.Path.{_≡_, refl, _∙_, subst, subst⁻¹}
+use mathlib.Core.Bool.{Bool, true, false, cond, not}
 use mathlib.Core.List.{List, [], _∷_}
 use mathlib.Core.Logic.{_⊎_, inl, inr}
 use Prim.Native.Nat.{_*_, _≤_}
 use lib.IntN.{pos}
-use lib.Dec.{T, lit≤}
-use lib.Ieee.{Float, fin, binary64, add, sub, mul, lt, le, fits, ofBits}
+use lib.Dec.{T, T-not, lit≤}
+use lib.Ieee.{Float, nan, inf, fin, binary64, add, sub, mul, lt, le, fits, ofBits, isNan}
 use lib.Ieee.Fits.{add-fits}
 use lib.Ieee.Scale.{finite}
 use lib.Ieee.Positive.{num, den}
-use Rattle.real.specs.Reals.{zero64, magnitude}
+use Rattle.real.specs.Reals.{zero64, one64, magnitude}
 use Rattle.real.specs.Fold.{turns}
-use Rattle.real.proofs.SignedOrder.{natural, nat-fin, in-fin, le-self, add-mono, mul-smono}
+use Rattle.real.proofs.SignedOrder.{natural, nat-fin, in-fin, le-self, le-total, add-mono, mul-smono}
 use Rattle.real.proofs.Toward.{forward, width-finite, within-finite, toward-fin, toward-low, toward-high}
 use Rattle.golden.specs.declared.Bracket.{Bracket}
 use Rattle.golden.specs.Golden.{G, G2, startOf, firstOf, secondAt, secondOf, aimOf, bestAt, improvedOf, leftOf, rightOf, narrowOf}
-use Rattle.golden.specs.Kiefer.{Span, Inside, Within, Framed, Ordered, KieferRound, Narrowed, opened, playedOf, triedOf, Each, Among, Steady, Narrowing, pointsOf, Searched}
+use Rattle.golden.specs.Kiefer.{Span, Inside, Within, Framed, Ordered, KieferRound, Narrowed, Valley, ScoredBy, Follows, opened, playedOf, triedOf, Each, Among, Steady, Narrowing, pointsOf, Searched}
 use Rattle.golden.proofs.Round.{improved-is, best-is, best-of-two}
 
 -- ---- the proportions: from 0 to 2 / 3
@@ -184,6 +185,81 @@ pub narrowing : (g : Bracket) (l : List Float) → Framed g → Steady g l → N
 narrowing g [] o h = tt
 narrowing g (s ∷ l) o h = let n = round-narrows g s o (h .0) in (n, narrowing (narrowOf g s) l (n .framed) (h .1))
 
+-- ---- the bottom of a valley stays in the bracket
+
+-- what is less or at most is no NaN
+less-numbers : (x y : Float) → T (lt x y) → T (not (isNan x)) × T (not (isNan y))
+unfolding lt isNan
+less-numbers nan y h = absurd h
+less-numbers (inf s) nan h = absurd h
+less-numbers (inf s) (inf t) h = (tt, tt)
+less-numbers (inf s) (fin t n d) h = (tt, tt)
+less-numbers (fin s m e) nan h = absurd h
+less-numbers (fin s m e) (inf t) h = (tt, tt)
+less-numbers (fin s m e) (fin t n d) h = (tt, tt)
+
+most-number : (x y : Float) → T (le x y) → T (not (isNan y))
+unfolding le isNan
+most-number nan nan h = h
+most-number (inf s) nan h = h
+most-number (fin s m e) nan h = h
+most-number x (inf t) h = tt
+most-number x (fin t n d) h = tt
+
+pub bottom-kept : (f : Float → Float) (g : Bracket) (s m : Float) → T (lt (g .c) (g .d)) → ScoredBy f g
+    → Valley f (g .c ∷ g .d ∷ []) m → Inside (g .a) (g .b) m → Inside (narrowOf g s .a) (narrowOf g s .b) m
+bottom-kept f g s m h w v i =
+    by-side g s (λ k. Inside (k .a) (k .b) m)
+    (λ e x y. record { held = i .held; low = i .low; high = left (subst⁻¹ T (rw (w .c, w .d) at e) tt) (le-total m (g .d) n (less-numbers (g .c) (g .d) h .1)) })
+    (λ e x y. record { held = i .held; low = right (rw (w .c, w .d) at e) (le-total (g .c) m (less-numbers (g .c) (g .d) h .0) n); high = i .high })
+  where
+    n : T (not (isNan m))
+    n = most-number (g .a) m (i .low)
+
+    left : T (lt (f (g .c)) (f (g .d))) → T (le m (g .d)) ⊎ T (le (g .d) m) → T (le m (g .d))
+    left r (inl k) = k
+    left r (inr k) = absurd (T-not (lt (f (g .c)) (f (g .d))) (v .falls (g .c) (g .d) (inl refl) (inr (inl refl)) h k) r)
+
+    right : lt (f (g .c)) (f (g .d)) ≡ false → T (le (g .c) m) ⊎ T (le m (g .c)) → T (le (g .c) m)
+    right e (inl k) = k
+    right e (inr k) = absurd (subst T e (v .rises (g .c) (g .d) (inl refl) (inr (inl refl)) k h))
+
+-- fewer points have the same valley
+fewer : {f : Float → Float} {points : List Float} {m : Float} (some : List Float) → ((x : Float) → Among x some → Among x points) → Valley f points m → Valley f some m
+fewer some p v = record { falls = λ x y i j. v .falls x y (p x i) (p y j); rises = λ x y i j. v .rises x y (p x i) (p y j) }
+
+first-two : (x y z : Float) (l : List Float) → Among z (x ∷ y ∷ []) → Among z (x ∷ y ∷ l)
+first-two x y z l (inl e) = inl e
+first-two x y z l (inr (inl e)) = inr (inl e)
+
+-- the points after a round are among those before it
+later-points : (g : Bracket) (s : Float) (l : List Float) (x : Float) → Among x (narrowOf g s .c ∷ narrowOf g s .d ∷ l) → Among x (g .c ∷ g .d ∷ aimOf g ∷ l)
+later-points g s l x =
+    by-side g s (λ k. Among x (k .c ∷ k .d ∷ l) → Among x (g .c ∷ g .d ∷ aimOf g ∷ l))
+    (λ e y v. left) (λ e y v. right)
+  where
+    left : Among x (aimOf g ∷ g .c ∷ l) → Among x (g .c ∷ g .d ∷ aimOf g ∷ l)
+    left (inl h) = inr (inr (inl h))
+    left (inr (inl h)) = inl h
+    left (inr (inr h)) = inr (inr (inr h))
+
+    right : Among x (g .d ∷ aimOf g ∷ l) → Among x (g .c ∷ g .d ∷ aimOf g ∷ l)
+    right (inl h) = inr (inl h)
+    right (inr h) = inr (inr h)
+
+next-scored : (f : Float → Float) (g : Bracket) (s : Float) → ScoredBy f g → s ≡ f (aimOf g) → ScoredBy f (narrowOf g s)
+next-scored f g s w h = by-side g s (ScoredBy f) (λ e x y. record { c = h; d = w .c }) (λ e x y. record { c = w .d; d = h })
+
+-- and through any number of rounds
+pub bottom-stays : (f : Float → Float) (m : Float) (g : Bracket) (l : List Float) → ScoredBy f g → Follows f g l
+    → Valley f (g .c ∷ g .d ∷ triedOf g l) m → Inside (g .a) (g .b) m → Inside (playedOf g l .a) (playedOf g l .b) m
+unfolding playedOf triedOf
+bottom-stays f m g [] w r v i = i
+bottom-stays f m g (s ∷ l) w r v i =
+    bottom-stays f m (narrowOf g s) l (next-scored f g s w (r .1)) (r .2)
+    (fewer (narrowOf g s .c ∷ narrowOf g s .d ∷ triedOf (narrowOf g s) l) (later-points g s (triedOf (narrowOf g s) l)) v)
+    (bottom-kept f g s m (r .0) w (fewer (g .c ∷ g .d ∷ []) (λ x. first-two (g .c) (g .d) x (triedOf g (s ∷ l))) v) i)
+
 -- in order or not, no later bracket or point leaves a bracket that frames its points
 framed-within : (g : Bracket) → Framed g → Within (g .a) (g .b) g
 framed-within g o = record { a = low-inside (o .span); b = high-inside (o .span); c = o .c; d = o .d }
@@ -246,3 +322,14 @@ out-of-order = refl
 pub widens : lt (playedOf sixth (fin true 1 (pos 0) ∷ []) .b) (playedOf sixth (fin true 1 (pos 0) ∷ zero64 ∷ []) .b) ≡ true
 unfolding playedOf turns narrowOf improvedOf aimOf secondOf startOf magnitude add sub mul lt le ofBits
 widens = refl
+
+-- ---- a score with two equal points past its bottom, 0 at 0 and 1 above: the round from 0 to 1 keeps the right part, which 0 is not in
+abbrev level : Float → Float
+level x = cond (le x zero64) zero64 one64
+
+abbrev whole : Bracket
+whole = let g = startOf zero64 one64 in secondOf (firstOf g (level (g .c))) (level (g .d))
+
+pub level-loses : lt zero64 (narrowOf whole (level (aimOf whole)) .a) ≡ true
+unfolding narrowOf improvedOf aimOf secondOf startOf add sub mul lt le ofBits
+level-loses = refl

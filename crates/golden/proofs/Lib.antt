@@ -1,2 +1,3 @@
 pub mod Round
+pub mod Points
 pub mod Kiefer

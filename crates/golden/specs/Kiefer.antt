@@ -1,16 +1,19 @@
 -- The search against the published method: J. Kiefer, Sequential minimax search for a maximum, Proc. Amer. Math. Soc. 4 (1953). Definitions; the theorems are in proofs/Kiefer.
 -- What 000 keeps of it: a bracket has two inner points with their scores. A round keeps the part about the inner point of the better score, reuses that point and its score as an
--- inner point of the part, and makes one new trial there. The points stand at the golden section, the limit of Kiefer's Fibonacci points as the number of trials grows.
+-- inner point of the part, and makes one new trial there. The points stand at the golden section, the limit of Kiefer's Fibonacci points as the number of trials grows: specs/Points.
+-- Where the score has one valley on the points compared, a round that begins with c < d keeps its bottom in the bracket: `bottom-kept`, and `bottom-stays` of any number of rounds.
 -- Where 000 leaves it:
--- 1. It seeks the least score, not the greatest. Where the two scores are equal, or one is NaN, it keeps the right part.
--- 2. The new point stands at a proportion of the part, a + G2 h or a + G h. The published one is the mirror image of the reused point. As real numbers they are the same; rounded they
---    are not. In a bracket some last places wide c can come out above d: `out-of-order` of proofs/Kiefer. Such a round can keep a part that the reused point lies outside, and the
---    next can widen the bracket (`widens`). So a bracket lies within the one before while c ≤ d (`narrowing`), and within every bracket that held its own points always (`later-within`).
+-- 1. It seeks the least score, not the greatest. Where the two scores are equal, or one is NaN, it keeps the right part. So the score may stay level before the bottom but has to rise
+--    strictly after it: equal scores past the bottom lose it (`level-loses`).
+-- 2. The new point stands at a proportion of the part, a + G2 h or a + G h. The published one is the mirror image of the reused point. As real numbers they are the same, which
+--    `golden-section` of proofs/Points proves of any commutative ring; rounded they are not. In a bracket some last places wide c can come out above d: `out-of-order` of proofs/Kiefer.
+--    Such a round can keep a part that the reused point lies outside, and the next can widen the bracket (`widens`). So a bracket lies within the one before while c ≤ d (`narrowing`),
+--    and within every bracket that held its own points always (`later-within`).
 -- 3. It makes at most 100 rounds, fewer where |h| ≤ EPS. The published number of trials follows from the accuracy that is asked.
 -- 4. Its answer is the best point tried. The published answer is the last bracket.
 -- 5. It neither asks nor tests that the score has one valley. Where it has more, the answer is still the best point tried, and nothing is said of the points between.
 use mathlib.Core.Path.{_≡_}
-use mathlib.Core.Bool.{true, false}
+use mathlib.Core.Bool.{true, false, not}
 use mathlib.Core.List.{List, [], _∷_}
 use mathlib.Core.Logic.{_⊎_}
 use lib.Dec.{T}
@@ -132,3 +135,20 @@ pub record Searched (lo hi s t : Float) (l : List Float) : Type 0 where
   pub points : Each (Inside lo hi) (pointsOf lo hi s t l)
   pub bracket : Within lo hi (playedOf (opened lo hi s t) l)
   pub answer : Among (playedOf (opened lo hi s t) l .best) (pointsOf lo hi s t l)
+
+-- ---- one valley
+
+-- on these points the score f is unimodal, one valley with its bottom at m: up to m it nowhere rises (a NaN is no rise), from m on it rises strictly
+pub record Valley (f : Float → Float) (points : List Float) (m : Float) : Type 0 where
+  pub falls : (x y : Float) → Among x points → Among y points → T (lt x y) → T (le y m) → T (not (lt (f x) (f y)))
+  pub rises : (x y : Float) → Among x points → Among y points → T (le m x) → T (lt x y) → T (lt (f x) (f y))
+
+-- the scores of g's inner points are those of f
+pub record ScoredBy (f : Float → Float) (g : Bracket) : Type 0 where
+  pub c : g .fc ≡ f (g .c)
+  pub d : g .fd ≡ f (g .d)
+
+-- every round tries f at its point, and its bracket has c < d when the round begins
+abbrev pub Follows : (Float → Float) → Bracket → List Float → Type 0
+Follows f g [] = Unit
+Follows f g (s ∷ l) = T (lt (g .c) (g .d)) × (s ≡ f (aimOf g)) × Follows f (narrowOf g s) l

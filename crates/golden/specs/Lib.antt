@@ -1,2 +1,3 @@
 pub mod Golden
+pub mod Points
 pub mod Kiefer

@@ -1,19 +1,21 @@
 -- Where a kernel weighs nothing, told by sums of squares: what `reach` and `weight_within` ask. Assumes nothing.
-use mathlib.Core.Path.{_≡_, refl, sym, subst}
+use mathlib.Core.Path.{_≡_, refl, sym, subst, subst⁻¹}
 use mathlib.Core.Bool.{Bool, true, false, not}
 use lib.Dec.{T}
 use lib.Ieee.{Float, nan, inf, fin, binary64, sub, mul, lt, le, ofBits, fits, isNan}
-use lib.Ieee.Bits.{is-true}
-use lib.Ieee.Fits.{add-fits, mul-fits}
+use lib.Ieee.Bits.{is-true, is-false}
+use lib.Ieee.Fits.{add-fits, mul-fits, and-l, and-r}
 use lib.Ieee.Scale.{finite}
 use Rattle.real.specs.Reals.{zero64}
 use Rattle.real.proofs.Values.{untrue}
 use Rattle.real.proofs.SignedOrder.{nonneg, le-tr, nlt→le}
 use Rattle.root.specs.Root.{root, inf64}
 use Rattle.kernel.specs.declared.GwrKernel.{GwrKernel}
-use Rattle.kernel.specs.declared.GwrKernel.the-variants.{Bisquare}
-use Rattle.kernel.specs.Weight.{squaresOf, distanceOf, unusable, bisquareWeight, weightOf, Beyond, Reach}
+use Rattle.kernel.specs.declared.GwrKernel.the-variants.{Gaussian, Bisquare, Exponential}
+use Rattle.kernel.specs.Weight.{squaresOf, distanceOf, unusable, bisquareWeight, weightOf}
+use Rattle.kernel.specs.Reach.{bisquareReach, reachOf, Reach}
 use Rattle.kernel.proofs.DistanceRange.{square-nonneg}
+use Rattle.kernel.proofs.WeightRange.{usable-of}
 use Rattle.kernel.proofs.RootOrder.{not-both, either, root-ends, and-false, root-order}
 
 pub squares-fits : (ax ay bx by : Float) → T (fits binary64 (squaresOf ax ay bx by))
@@ -25,13 +27,9 @@ unfolding distanceOf squaresOf
 distance-is ax ay bx by = refl
 
 -- ---- no number is from NaN on
-pub nowhere : (k : GwrKernel) (b : Float) → Reach k b nan
+nowhere : (k : GwrKernel) (b : Float) → Reach k b nan
 unfolding le
 nowhere k b = record { past = λ s f h. absurd h }
-
-pub never : (b : Float) → Beyond b nan
-unfolding le
-never b = record { usable = λ s h. absurd h; past = λ s f h. absurd h }
 
 -- ---- where the bandwidth is in use and the root of c reaches it
 number-right : (x y : Float) → T (le x y) → T (not (isNan y))
@@ -75,16 +73,32 @@ module _ (b : Float) (f : T (finite b)) (p : T (lt zero64 b)) (h : T (le b (root
       let own : root c ≡ c = root-ends c c-nonneg (and-false (lt zero64 c) (lt c inf64) (subst (λ (z : Bool). T (not z)) (sym (untrue (lt zero64 c) (λ u. not-both zero64 c u low))) tt)) in
       absurd (not-both zero64 b p (le-tr b c zero64 (subst (λ (z : Float). T (le b z)) own h) low)))
 
-  pub beyond : Beyond b c
-  unfolding unusable
-  beyond =
-      record {
-        usable = λ s k. rw (is-true (finite b) f) (untrue (le b zero64) (λ u. not-both zero64 b p u));
-        past = λ s g k. untrue (lt (root s) b) (λ u. not-both (root s) b u (le-tr b (root c) (root s) h (root-order c s (mul-fits binary64 b b) g c-nonneg (above-nonneg s (past-above s k)) k)));
-      }
+  -- the root of no number from c on is below b
+  beyond : (s : Float) → T (fits binary64 s) → T (le c s) → lt (root s) b ≡ false
+  beyond s g k = untrue (lt (root s) b) (λ u. not-both (root s) b u (le-tr b (root c) (root s) h (root-order c s (mul-fits binary64 b b) g c-nonneg (above-nonneg s (past-above s k)) k)))
 
 -- ---- the Bisquare's
-module _ (b c : Float) (r : Beyond b c) where
-  pub bisquare-past : {k : GwrKernel} → k ≡ Bisquare → Reach k b c
-  unfolding weightOf bisquareWeight
-  bisquare-past e = record { past = λ s f h. rw (e, r .usable s h, r .past s f h) }
+
+-- a bandwidth in use is finite and above 0
+in-use : (b : Float) → T (not (unusable b)) → T (finite b) × T (lt zero64 b)
+unfolding ofBits
+in-use b u = let h = usable-of b u in (and-l (finite b) (lt zero64 b) h, and-r (finite b) (lt zero64 b) h)
+
+bisquare-reach : (b : Float) → Reach Bisquare b (bisquareReach b)
+unfolding bisquareReach weightOf bisquareWeight
+bisquare-reach b =
+    either (unusable b) (λ u. rw (is-true (unusable b) u) (nowhere Bisquare b))
+    (λ u.
+    let i = in-use b u in
+    let e = is-false (unusable b) u in
+    either (le b (root (mul binary64 b b))) (λ h. rw (e, is-true (le b (root (mul binary64 b b))) h) (record { past = λ s f k. rw (e, beyond b (i .0) (i .1) h s f k) }))
+    (λ h. rw (e, is-false (le b (root (mul binary64 b b))) h) (nowhere Bisquare b)))
+
+-- ---- every kernel's
+reach-of : (k : GwrKernel) (b : Float) → Reach k b (reachOf k b)
+reach-of Gaussian b = nowhere Gaussian b
+reach-of Bisquare b = bisquare-reach b
+reach-of Exponential b = nowhere Exponential b
+
+pub reaches : {k : GwrKernel} {b r : Float} → r ≡ reachOf k b → Reach k b r
+reaches {k} {b} e = subst⁻¹ (Reach k b) e (reach-of k b)

@@ -15,7 +15,8 @@ use Rattle.real.specs.Reals.{zero64}
 use Rattle.real.proofs.Values.{untrue}
 use Rattle.real.proofs.SignedOrder.{nonneg, le-tr, le→sle, nlt→le, lt-not-le, lt-of-not-le}
 use Rattle.root.specs.Root.{root, inf64}
-use Rattle.root.proofs.Nearest.{unsigned, total, NearestRoot, root-nearest, positive-unsigned, above-unsigned}
+use Rattle.root.specs.Nearest.{unsigned, sumNum, NearestRoot}
+use Rattle.root.proofs.Nearest.{root-nearest, positive-unsigned, above-unsigned}
 use Rattle.kernel.proofs.DistanceRange.{nonneg-number, nonneg-above, not-below, root-nonneg}
 
 -- ---- less and at most
@@ -101,10 +102,10 @@ module _ (x y : Float) (fx : T (fits binary64 x)) (fy : T (fits binary64 y)) whe
           let less : T (lt q r) = lt-of-not-le q r (positive-finite q (two .is-positive)) (positive-finite r (one .is-positive)) (T-not (le r q) f) in
           let low = one .below q (two .held) (positive-unsigned q (two .is-positive)) less in
           let high = two .above r (one .held) (positive-unsigned r (one .is-positive)) less in
-          let turned : total q r ≡ total r q = omega arith in
+          let turned : sumNum q r ≡ sumNum r q = omega arith in
           let scaled : den q * den r ≡ den r * den q = mul-comm (den q) (den r) in
-          clash (total r q * total r q) (den r * den q * (den r * den q)) (num x) (den x) (num y) (den y) (den-pos x) (den-pos y) low
-          (subst (λ (z : ℕ). 4 * num y * (z * z) < total r q * total r q * den y) scaled (subst (λ (z : ℕ). 4 * num y * (den q * den r * (den q * den r)) < z * z * den y) turned high))
+          clash (sumNum r q * sumNum r q) (den r * den q * (den r * den q)) (num x) (den x) (num y) (den y) (den-pos x) (den-pos y) low
+          (subst (λ (z : ℕ). 4 * num y * (z * z) < sumNum r q * sumNum r q * den y) scaled (subst (λ (z : ℕ). 4 * num y * (den q * den r * (den q * den r)) < z * z * den y) turned high))
           (cross x y (above-unsigned x (is-true (lt zero64 x) a) (is-true (lt x inf64) b)) (above-unsigned y (is-true (lt zero64 y) c) (is-true (lt y inf64) d)) l)
 
   -- the root keeps order

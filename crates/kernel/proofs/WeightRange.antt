@@ -14,8 +14,8 @@ use lib.Ieee.Fits.{and-l, and-r, div-fits}
 use lib.Ieee.Order.{round-mono}
 use lib.Ieee.Scale.{finite, round-same}
 use lib.Ieee.Positive.{num, den, den-pos}
-use Rattle.real.specs.Reals.{zero64, one64}
-use Rattle.real.proofs.SignedOrder.{sgn, le-tr, neg-anti, natural, nat-fin, nat-sgn, add-mono, mul-opened, div-by, div-smono, mag, mag-of, mag-finite, in-fin, lt→le, le-self, sub-opened, neg-finite, zero-of, zero-over, round-sgn, round-mag, round-below, square-mag, nat-above, lt-of-not-le}
+use Rattle.real.specs.Reals.{zero64, one64, magnitude}
+use Rattle.real.proofs.SignedOrder.{sgn, le-tr, neg-anti, natural, nat-fin, nat-sgn, add-mono, mul-opened, div-by, div-smono, mag-of, mag-finite, in-fin, lt→le, le-self, sub-opened, neg-finite, zero-of, zero-over, round-sgn, round-mag, round-below, square-mag, nat-above, lt-of-not-le}
 use Rattle.elementary.specs.Exp.{expv}
 use Rattle.elementary.proofs.ExpRange.{exp-in}
 use Rattle.kernel.specs.declared.GwrKernel.{GwrKernel}
@@ -56,7 +56,7 @@ abbrev In01 : Float → Type 0
 In01 x = T (le nought x) × T (le x one)
 
 -- ---- a bandwidth in use: finite, its sign clear, not 0
-usable-of : (b : Float) → T (not (unusable b)) → T (usable b)
+pub usable-of : (b : Float) → T (not (unusable b)) → T (usable b)
 unfolding unusable ofBits
 usable-of b h = go (finite b) (le b nought) refl refl h
   where
@@ -146,7 +146,7 @@ neg-half false m e = ap (λ (n : ℕ). round binary64 true n (2 * down e)) (one-
 half-fin : (s : Bool) (m : ℕ) (e : ℤ) → T (fits binary64 (fin s m e)) → T (finite (mul binary64 (neg half) (fin s m e)))
 half-fin s m e F =
     mag-finite (mul binary64 (neg half) (fin s m e)) BIG tt
-    (subst (λ (w : Float). T (le w BIG)) (sym (ap mag (neg-half s m e) ∙ round-mag binary64 (not s) (m * up e) (2 * down e)))
+    (subst (λ (w : Float). T (le w BIG)) (sym (ap magnitude (neg-half s m e) ∙ round-mag binary64 (not s) (m * up e) (2 * down e)))
     (subst (λ (w : Float). T (le (round binary64 false (m * up e) (2 * down e)) w)) big
     (round-mono binary64 (m * up e) (2 * down e) (2 ^ 1024) 2 (mul-pos (lit< tt) (den-pos (fin s m e))) (lit< tt)
     (twice (m * up e) (down e) (2 ^ 1024) (2 ^ 1024 * down e) (2 ^ 1024 * (2 * down e)) (fits-below s m e F) (mul-left-comm (2 ^ 1024) 2 (down e))))))

@@ -1,10 +1,9 @@
 -- The kernels of Fotheringham, Brunsdon and Charlton 2002 as formulas over any arithmetic: the exact one of fractions, and that of binary64, which rounds each operation once. Definitions, and examples at the end.
 use mathlib.Core.Path.{_≡_, refl}
-use mathlib.Core.Bool.{Bool, true, false, not, cond, Bool·beq, _&&_}
-use Prim.Native.Nat.{ℕ, _+_, _-_, _*_}
-use lib.Dec.{ltb}
-use lib.Ieee.{Float, nan, inf, fin, binary64, up, down, round, sub, mul, div, neg, lt, below, unlike}
+use mathlib.Core.Bool.{Bool, true, false, cond}
+use lib.Ieee.{Float, binary64, sub, mul, div, neg, lt}
 use Rattle.real.specs.Reals.{zero64, one64}
+use Rattle.real.specs.Fractions.{Fraction, fraction, flipped, difference, product, quotient, smaller}
 use Rattle.elementary.specs.Exp.{expv}
 use Rattle.kernel.specs.declared.GwrKernel.{GwrKernel}
 use Rattle.kernel.specs.declared.GwrKernel.the-variants.{Gaussian, Bisquare, Exponential}
@@ -60,35 +59,12 @@ rounded =
       number = λ x. x;
     }
 
--- ---- fractions of whole numbers: nothing is rounded
-
--- over / under, negative where the sign is set
-pub data Fraction : Type 0 where
-  fraction : Bool → ℕ → ℕ → Fraction
+-- ---- fractions: nothing is rounded
 
 -- a weight is a fraction, or e to the power of one
 pub data Exact : Type 0 where
   power : Fraction → Exact
   plain : Fraction → Exact
-
-abbrev pub flipped : Fraction → Fraction
-flipped (fraction s a c) = fraction (not s) a c
-
--- a/c + b/c of these signs; a sum of nothing has a sign only where both have
-abbrev pub joined : Bool → ℕ → Bool → ℕ → ℕ → Fraction
-joined s a t b c = cond (Bool·beq s t) (fraction s (a + b) c) (cond (ltb a b) (fraction t (b - a) c) (fraction (s && ltb b a) (a - b) c))
-
-abbrev pub difference : Fraction → Fraction → Fraction
-difference (fraction s a c) (fraction t b d) = joined s (a * d) (not t) (b * c) (c * d)
-
-abbrev pub product : Fraction → Fraction → Fraction
-product (fraction s a c) (fraction t b d) = fraction (unlike s t) (a * b) (c * d)
-
-abbrev pub quotient : Fraction → Fraction → Fraction
-quotient (fraction s a c) (fraction t b d) = fraction (unlike s t) (a * d) (b * c)
-
-abbrev pub smaller : Fraction → Fraction → Bool
-smaller (fraction s a c) (fraction t b d) = below s (a * d) t (b * c)
 
 abbrev pub exact : Arithmetic Fraction Exact
 exact =
@@ -104,16 +80,6 @@ exact =
       exp = power;
       number = plain;
     }
-
--- a finite number as a fraction
-abbrev pub fractionOf : Float → Fraction
-fractionOf nan = fraction false 0 1
-fractionOf (inf s) = fraction false 0 1
-fractionOf (fin s m e) = fraction s (m * up e) (down e)
-
--- the binary64 nearest to a fraction, ties to the even last bit
-abbrev pub nearest64 : Fraction → Float
-nearest64 (fraction s a c) = round binary64 s a c
 
 -- ---- examples: distance 1 at bandwidth 2, exact
 module _ where

@@ -4,7 +4,7 @@ use mathlib.Core.Bool.{Bool, true, false, cond, not, _||_}
 use Prim.Native.Nat.{ℕ, zero, suc}
 use lib.Dec.{T}
 use lib.IntN.{pos}
-use lib.Ieee.{Float, fin, binary64, add, sub, mul, div, neg, lt, le, eq, fits, ofBits}
+use lib.Ieee.{Float, fin, binary64, add, sub, mul, div, neg, lt, le, eq, ofBits}
 use lib.Ieee.Scale.{finite}
 use Rattle.real.specs.Reals.{zero64, one64}
 use Rattle.root.specs.Root.{root}
@@ -64,15 +64,6 @@ unfoldable pub weightOf : GwrKernel → Float → Float → Float
 unfolding unusable degenerateWeight gaussianWeight bisquareWeight exponentialWeight
 weightOf k d b = cond (unusable b) (degenerateWeight d) (kernelWeight k d b)
 
--- b is in use, and the root of no number from c on is below b
-pub record Beyond (b c : Float) : Type 0 where
-  pub usable : (s : Float) → T (le c s) → unusable b ≡ false
-  pub past : (s : Float) → T (fits binary64 s) → T (le c s) → lt (root s) b ≡ false
-
--- the root of no number from c on weighs anything
-pub record Reach (k : GwrKernel) (b c : Float) : Type 0 where
-  pub past : (s : Float) → T (fits binary64 s) → T (le c s) → weightOf k (root s) b ≡ zero64
-
 -- the answer of the public weight call: a refusal where d is NaN or negative
 unfoldable pub weighed : GwrKernel → Float → Float → Weighed
 unfolding weightOf le
@@ -111,3 +102,8 @@ module _ where
   refused : weighed Gaussian (fin true 1 (pos 0)) (fin false 1 (pos 0)) ≡ BadDistance
   unfolding weighed ofBits
   refused = refl
+
+  -- and serves -0, as the distance 0 that it is
+  served : weighed Bisquare (fin true 0 (pos 0)) (fin false 1 (pos 0)) ≡ Weight one64
+  unfolding weighed ofBits
+  served = refl

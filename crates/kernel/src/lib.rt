@@ -1,7 +1,8 @@
 // Distance and kernel weight.
 ghost use mathlib.Core.Path.{_≡_};
 ghost use Rattle.root.specs.Root.{root, guessOf};
-ghost use Rattle.kernel.specs.Weight.{squaresOf, distanceOf, degenerateWeight, gaussianWeight, bisquareWeight, weightOf, Beyond, Reach, weighed};
+ghost use Rattle.kernel.specs.Weight.{squaresOf, distanceOf, degenerateWeight, gaussianWeight, bisquareWeight, weightOf, weighed};
+ghost use Rattle.kernel.specs.Reach.{bisquareReach, reachOf, Reach};
 
 // 000's three spatial kernels.
 pub enum GwrKernel {
@@ -32,7 +33,7 @@ impl GwrKernel {
 
     // A sum of squares from which on nothing weighs under bandwidth b, so that no root is taken there; NaN where none is known.
     pub fn reach(self, b: f64) -> f64
-        ensures { λ r. ⌜ Reach self b r ⌝ }
+        ensures { λ r. ⌜ r ≡ reachOf self b ⌝ }
     {
         match self {
             GwrKernel::Gaussian => 0.0 / 0.0,
@@ -87,18 +88,18 @@ fn bisquare(d: f64, b: f64) -> f64
 
 // The square of a bandwidth in use, if its root, judged here, reaches the bandwidth; else NaN.
 fn bisquare_reach(b: f64) -> f64
-    ensures { λ r. ⌜ Beyond b r ⌝ }
+    ensures { λ r. ⌜ r ≡ bisquareReach b ⌝ }
 {
     let c = b * b;
     let usable = real::is_finite(b);
     if usable {
-        if b > 0.0 {
-            if root::sqrt(c) >= b {
-                return c;
-            }
+        if b <= 0.0 {
+            return 0.0 / 0.0;
         }
+        if root::sqrt(c) >= b { c } else { 0.0 / 0.0 }
+    } else {
+        0.0 / 0.0
     }
-    0.0 / 0.0
 }
 
 // The sum of the squares of the distance between two places, easting and northing of each.

@@ -1,1 +1,3 @@
 pub mod Texts
+pub mod Reading
+pub mod Numbers

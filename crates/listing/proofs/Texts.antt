@@ -1,11 +1,13 @@
 -- Headers and texts, case by case.
 use mathlib.Core.Path.{_≡_, refl, sym, ap, subst, _∙_}
 use mathlib.Core.Bool.{Bool, true, false, cond}
-use mathlib.Core.List.{List, [], _∷_}
+use mathlib.Core.List.{List, [], _∷_, _++_}
 use Prim.Native.Nat.{ℕ, _+_, _*_, _-_, _≤_, _<_}
 use native.Mathlib.Omega.{arith}
 use borrow.Author.Tests.{ltb-false, lt-ltb, le-ltb}
-use lib.ListN.{length, take, drop, replicate, length-append}
+use lib.Dec.{ltb}
+use lib.ListN.{length, take, drop, replicate, length-append, length-drop}
+use lib.Seq.{take-all}
 use Rattle.wire.specs.Wire.{loadOf, placed}
 use Rattle.text.specs.Listing.{refusedLine, listing, rowsOf, Written}
 use Rattle.refusal.specs.Numbers.{refusalNumber}
@@ -23,8 +25,9 @@ use Rattle.calls.proofs.Counts.{Answered, answered, refusal-ranged}
 use Rattle.listing.specs.declared.Head.{Head}
 use Rattle.listing.specs.declared.Header.{Header}
 use Rattle.listing.specs.declared.Header.the-variants.{Whole, Refused}
-use Rattle.listing.specs.Headers.{headOf, isUnknown, sizeTests, headerTests, headerAfter, headerOf, HeaderRead}
+use Rattle.listing.specs.Headers.{headOf, isUnknown, sizeTests, headerTests, headerAfter, headerOf, Sized, HeaderRead}
 use Rattle.listing.specs.Jobs.{placesEnd, predictorsEnd, responsesEnd, cutTests, answerText, fitOfParts, wholeText, textAfter, jobText}
+use Rattle.listing.specs.Printed.{textOf, printed, asked}
 
 -- ---- headers
 
@@ -55,6 +58,22 @@ module _ (s : List ℕ) (a b d : ℕ) (long : 40 ≤ length s) (ea : a ≡ loadO
       → HeaderRead r (headerOf s)
   unfolding headerOf headerTests judge
   header-known o r e h = record { is = rw (le-ltb (length s) 40 long, loaded (choice.Known o) e) (h .is); sized = h .sized }
+
+-- the sizes of a whole header, and that it is whole
+pub head-sized : (r expected : Header) (h : Head) → HeaderRead r expected → r ≡ Whole h → (h .n ≤ 512) × (h .p ≤ 7)
+head-sized r expected h w e = subst Sized e (w .sized)
+
+pub head-long : (s : List ℕ) (h : Head) → headerOf s ≡ Whole h → 40 ≤ length s
+unfolding headerOf headerTests judge
+head-long s h e = go (ltb (length s) 40) refl _ e
+  where
+    go : (b : Bool) → ltb (length s) 40 ≡ b → (k : Check) → headerAfter (cond b (check.Refused NoCoordinates) k) (headOf s) ≡ Whole h → 40 ≤ length s
+    go true f k i = let z : _≡_ {A = ℕ} 0 1 = cc in absurd (omega arith)
+    go false f k i = ltb-false _ _ f
+
+-- what a header asks for
+pub asked-is : (s : List ℕ) (h : Header) → headerOf s ≡ h → asked h ≡ asked (headerOf s)
+asked-is s h e = sym (ap (λ (z : Header). asked z) e)
 
 -- ---- texts
 
@@ -98,6 +117,34 @@ module _ (h : Head) (parts : List ℕ) where
   pub job-whole : judge (cutTests (length parts) (h .n) (h .p)) ≡ check.Pass → wholeText h parts (replicate 45056 0) (replicate 24 0) ≡ jobText h parts
   unfolding jobText
   job-whole e = sym (ap (λ (k : Check). textAfter k (wholeText h parts (replicate 45056 0) (replicate 24 0))) e)
+
+-- the text of an input, of the header that was read and the bytes behind it
+pub refused-input : (input : List ℕ) (r : Refusal) (number : ℕ) → headerOf input ≡ Refused r → number ≡ refusalNumber r → refusedLine number ≡ printed input
+unfolding printed
+refused-input input r number e i = ap refusedLine i ∙ sym (ap (λ (z : Header). textOf z (drop 40 input)) e)
+
+pub whole-input : (input : List ℕ) (h : Head) → headerOf input ≡ Whole h → jobText h (take (length input - 40) (drop 40 input)) ≡ printed input
+unfolding printed
+whole-input input h e =
+    ap (jobText h) (take-all (length input - 40) (drop 40 input) (omega (arith, length-drop 40 input))) ∙ sym (ap (λ (z : Header). textOf z (drop 40 input)) e)
+
+-- the text of an input is decided by the header's tests and then by those of the parts
+text-both : (ts us : List (Bool × Refusal)) (h : Head) (parts text : List ℕ) → jobText h parts ≡ textAfter (judge us) text → textOf (headerAfter (judge ts) h) parts ≡ textAfter (judge (ts ++ us)) text
+unfolding judge
+text-both [] us h parts text e = e
+text-both (t ∷ ts) us h parts text e = go (t .0) (text-both ts us h parts text e)
+  where
+    go : (b : Bool) → textOf (headerAfter (judge ts) h) parts ≡ textAfter (judge (ts ++ us)) text
+        → textOf (headerAfter (cond b (check.Refused (t .1)) (judge ts)) h) parts ≡ textAfter (cond b (check.Refused (t .1)) (judge (ts ++ us))) text
+    go true i = refl
+    go false i = i
+
+pub printed-by : (input : List ℕ)
+    → let h = headOf input in
+    let parts = drop 40 input in
+    printed input ≡ textAfter (judge (headerTests input ++ cutTests (length parts) (h .n) (h .p))) (wholeText h parts (replicate 45056 0) (replicate 24 0))
+unfolding printed headerOf jobText
+printed-by input = text-both (headerTests input) _ (headOf input) (drop 40 input) _ refl
 
 -- the text of whole parts, of the parts lent to the fit
 pub whole-text : (h : Head) (parts out summary x y : List ℕ) (a : After) → x ≡ take (8 * (h .n * h .p)) (drop (placesEnd (h .n)) parts) → y ≡ take (8 * h .n) (drop (predictorsEnd (h .n) (h .p)) parts)

@@ -1,2 +1,4 @@
 pub mod Headers
 pub mod Jobs
+pub mod Printed
+pub mod Numbers

@@ -7,6 +7,7 @@ ghost use Rattle.text.specs.Listing.{Written};
 ghost use Rattle.plan.specs.Checks.{judge};
 ghost use Rattle.listing.specs.Headers.{headOf, sizeTests, headerAfter, headerOf, partsLen, HeaderRead};
 ghost use Rattle.listing.specs.Jobs.{responsesEnd, cutTests, answerText, wholeText, jobText};
+ghost use Rattle.listing.specs.Printed.{printed, asked};
 use calls::Choice;
 use plan::Check;
 use refusal::Refusal;
@@ -149,5 +150,28 @@ pub fn print_job(h: Head, parts: &[u8], text: &mut [u8]) -> usize
             let mut summary = [0u8; 24];
             print_whole(h, parts, &mut out, &mut summary, text)
         }
+    }
+}
+
+// All that is printed of an input, of any bytes and any length; answers the text's length.
+pub fn print_input(input: &[u8], text: &mut [u8]) -> usize
+    requires { ⌜ 102400 ≤ length (now text) ⌝ }
+    ensures { λ r. ⌜ Written (now (text .entry)) 0 (printed (now (input .entry))) (now (text .exit)) r ⌝ }
+{
+    let header = read_header(input);
+    match header {
+        Header::Refused(r) => text::put_refused(text, r.number()),
+        Header::Whole(h) => print_job(h, &input[40..], text),
+    }
+}
+
+// How many bytes are to be read behind a header.
+pub fn asked_behind(head: &[u8]) -> usize
+    ensures { λ r. ⌜ (r ≡ asked (headerOf (now (head .entry)))) × (r ≤ 40960) ⌝ }
+{
+    let header = read_header(head);
+    match header {
+        Header::Refused(_) => 0,
+        Header::Whole(h) => parts_len(h.n, h.p),
     }
 }

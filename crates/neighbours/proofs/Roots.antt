@@ -8,12 +8,7 @@ use native.Mathlib.Numerals.{add-one}
 use native.Mathlib.Omega.{arith, min-cases}
 use borrow.Author.Tests.{ltb-true, ltb-false}
 use lib.Dec.{ltb}
-use Rattle.neighbours.specs.Count.{raised, ceilRoot}
-
--- r is the least whole number whose square is at least n
-pub record LeastRoot (n r : ℕ) : Type 0 where
-  pub reaches : n ≤ r * r
-  pub least : (s : ℕ) → s < r → s * s < n
+use Rattle.neighbours.specs.Count.{raised, ceilRoot, LeastRoot}
 
 -- the square of no number below r reaches n
 pub record Raising (n r : ℕ) : Type 0 where

@@ -1,7 +1,7 @@
 -- The count of neighbours where no search is asked for. Definitions, and examples.
 use mathlib.Core.Path.{_≡_, refl}
 use mathlib.Core.Bool.{cond}
-use Prim.Native.Nat.{ℕ, zero, suc, _-_, _*_, _≤_, min, max}
+use Prim.Native.Nat.{ℕ, zero, suc, _-_, _*_, _≤_, _<_, min, max}
 use lib.Dec.{eqb, ltb}
 
 -- r raised by one as long as its square is below n, at most m times
@@ -13,6 +13,11 @@ raised n (suc m) r = cond (ltb (r * r) n) (raised n m (suc r)) r
 unfoldable pub ceilRoot : ℕ → ℕ
 unfolding raised
 ceilRoot n = raised n n 0
+
+-- 01's words for it: r is the least whole number whose square is at least n
+pub record LeastRoot (n r : ℕ) : Type 0 where
+  pub reaches : n ≤ r * r
+  pub least : (s : ℕ) → s < r → s * s < n
 
 -- 0 becomes the larger of 2 and that root
 unfoldable pub chosenCount : ℕ → ℕ → ℕ

@@ -155,7 +155,7 @@ module _ (coords x y : List Float) (p : ℕ) (options : GwrOptions) (out : ℕ) 
   accept-is = rw (after-append, after-append)
 
   -- it passed every check, and its plan is that of the options
-  unrefused : (q : Plan) → ((r : Refusal) → q ≡ Refused r → ⊥) → acceptOf coords x y p options out ≡ q →
+  pub unrefused : (q : Plan) → ((r : Refusal) → q ≡ Refused r → ⊥) → acceptOf coords x y p options out ≡ q →
       (judge (inputTests coords x y p out) ≡ check.Pass) × (planOf coords (length coords / 2) p options ≡ q)
   unfolding acceptOf after
   unrefused q not-refused h = go (judge (inputTests coords x y p out)) refl h

@@ -3,3 +3,4 @@ pub mod SignedOrder
 pub mod Values
 pub mod Rounding
 pub mod Toward
+pub mod RoundedOnce

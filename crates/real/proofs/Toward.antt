@@ -17,7 +17,8 @@ use lib.Ieee.Exact.{HasValue, round-exact}
 use lib.Ieee.Order.{transfer, round-mono}
 use lib.Ieee.Scale.{grid, overflow, finite, round-same, round-val, round-under}
 use lib.Ieee.Positive.{num, den, den-pos}
-use Rattle.real.proofs.SignedOrder.{P, N, SLe, SumIs, sgn, sle-of, sle-scale, sle-unscale, sle-at, le→sle, here-or-on, round-smono, sum-is, add-opened, add-mono, mul-commute, mul-by, natural, nat-fin, mag, round-mag, mag-nat, mag-finite, in-fin, sub-opened, neg-finite, neg-anti, round-sgn, sgn-natural, zero-of, lt-not-le, le-self}
+use Rattle.real.specs.Reals.{magnitude}
+use Rattle.real.proofs.SignedOrder.{P, N, SLe, SumIs, sgn, sle-of, sle-scale, sle-unscale, sle-at, le→sle, here-or-on, round-smono, sum-is, add-opened, add-mono, mul-commute, mul-by, natural, nat-fin, round-mag, mag-nat, mag-finite, in-fin, sub-opened, neg-finite, neg-anti, round-sgn, sgn-natural, zero-of, lt-not-le, le-self}
 use Rattle.real.proofs.Values.{round-own}
 use Rattle.real.proofs.Rounding.{same-truth}
 
@@ -30,33 +31,33 @@ Units f x n = num x * 2 ^ low f ≡ n * den x
 abbrev unitsOf : Format → Float → ℕ
 unitsOf f x = grid f (num x) (den x)
 
-value-units : (f : Format) (x : Float) (n : ℕ) → T (finite x) → HasValue (mag x) false n (2 ^ low f) → Units f x n
-unfolding mag
+value-units : (f : Format) (x : Float) (n : ℕ) → T (finite x) → HasValue (magnitude x) false n (2 ^ low f) → Units f x n
+unfolding magnitude
 value-units f nan n p v = absurd p
 value-units f (inf s) n p v = absurd p
 value-units f (fin s m e) n p v = v .1
 
-mag-fits : (f : Format) (x : Float) → T (fits f x) → T (fits f (mag x))
-unfolding mag neg
+mag-fits : (f : Format) (x : Float) → T (fits f x) → T (fits f (magnitude x))
+unfolding magnitude neg
 mag-fits f nan h = h
 mag-fits f (inf s) h = unfold fits in tt
 mag-fits f (fin false m e) h = h
 mag-fits f (fin true m e) h = neg-fits f (fin true m e) h
 
 -- the size of a value, rounded, is itself
-mag-own : (f : Format) (x : Float) → T (fits f x) → T (finite x) → round f false (num x) (den x) ≡ mag x
+mag-own : (f : Format) (x : Float) → T (fits f x) → T (finite x) → round f false (num x) (den x) ≡ magnitude x
 mag-own f nan h p = absurd p
 mag-own f (inf s) h p = absurd p
-mag-own f (fin s m e) h p = unfold mag in round-own f false m e (mag-fits f (fin s m e) h)
+mag-own f (fin s m e) h p = unfold magnitude in round-own f false m e (mag-fits f (fin s m e) h)
 
-mag-fin : (x : Float) → T (finite x) → T (finite (mag x))
-mag-fin x p = nat-fin (mag x) (mag-nat x p)
+mag-fin : (x : Float) → T (finite x) → T (finite (magnitude x))
+mag-fin x p = nat-fin (magnitude x) (mag-nat x p)
 
-fin-mag : (x : Float) → T (natural (mag x)) → T (finite x)
-fin-mag x p = mag-finite x (mag x) p (le-self (mag x) (nat-fin (mag x) p))
+fin-mag : (x : Float) → T (natural (magnitude x)) → T (finite x)
+fin-mag x p = mag-finite x (magnitude x) p (le-self (magnitude x) (nat-fin (magnitude x) p))
 
 -- a finite value whose size is a / c rounded
-rounded-units : (f : Format) (x : Float) (a c : ℕ) → T (finite x) → mag x ≡ round f false a c → Units f x (grid f a c)
+rounded-units : (f : Format) (x : Float) (a c : ℕ) → T (finite x) → magnitude x ≡ round f false a c → Units f x (grid f a c)
 rounded-units f x a c p e =
     value-units f x (grid f a c) p
     (subst (λ (y : Float). HasValue y false (grid f a c) (2 ^ low f)) (sym e) (round-val f a c (round-under f a c (subst (λ (y : Float). T (finite y)) e (mag-fin x p)))))
@@ -284,8 +285,8 @@ module _ (f : Format) (a d : Float) (fa : T (fits f a)) (fd : T (fits f d)) (na 
   W-is : W ≡ round f (wide .0) (wide .1) L
   W-is = sub-units f d a (unitsOf f d) (unitsOf f a) nd na (own-units f d fd nd) (own-units f a fa na) ∙ wide .2
 
-  W-mag : mag W ≡ round f false (wide .1) L
-  W-mag = ap mag W-is ∙ round-mag f (wide .0) (wide .1) L
+  W-mag : magnitude W ≡ round f false (wide .1) L
+  W-mag = ap magnitude W-is ∙ round-mag f (wide .0) (wide .1) L
 
   -- it is finite where n units round to a finite value
   W-fin : T (finite (round f false (wide .1) L)) → T (finite W)
@@ -311,7 +312,7 @@ module _ (f : Format) (a d : Float) (fa : T (fits f a)) (fd : T (fits f d)) (na 
       W-fin
       (nat-fin (round f false (wide .1) L)
       (sgn-natural (round f false (wide .1) L)
-      (in-fin (fin false 0 (pos 0)) (round f false (wide .1) L) (mag d) tt (mag-fin d nd)
+      (in-fin (fin false 0 (pos 0)) (round f false (wide .1) L) (magnitude d) tt (mag-fin d nd)
       (subst (λ (x : Float). T (le x (round f false (wide .1) L))) (zero-of f false L (pow-pos (low f)))
       (round-mono f 0 L (wide .1) L (pow-pos (low f)) (pow-pos (low f)) (mul-le-mul-right L zero-le)))
       (subst (λ (x : Float). T (le (round f false (wide .1) L) x)) (mag-own f d fd nd)
@@ -363,13 +364,13 @@ module _ (f : Format) (r a d : Float) (fa : T (fits f a)) (fd : T (fits f d)) (n
       ∙ mul-by f H r nw nr
       ∙ ap (λ (s : Bool). round f s (num H * num r) (den H * den r)) (ap sgn (W-is f a d fa fd na nd) ∙ round-sgn f (way .0) (way .1) K)
 
-  Y-mag : mag Y ≡ round f false (num H * num r) (den H * den r)
-  Y-mag = ap mag Y-is ∙ round-mag f (way .0) (num H * num r) (den H * den r)
+  Y-mag : magnitude Y ≡ round f false (num H * num r) (den H * den r)
+  Y-mag = ap magnitude Y-is ∙ round-mag f (way .0) (num H * num r) (den H * den r)
 
   pub toward-fin : T (finite Y)
   toward-fin =
-      mag-finite Y (mag H) (mag-nat H nw)
-      (subst (λ (z : Float). T (le z (mag H))) (sym Y-mag)
+      mag-finite Y (magnitude H) (mag-nat H nw)
+      (subst (λ (z : Float). T (le z (magnitude H))) (sym Y-mag)
       (subst (λ (z : Float). T (le (round f false (num H * num r) (den H * den r)) z)) (mag-own f H (sub-fits f d a) nw)
       (round-mono f (num H * num r) (den H * den r) (num H) (den H) (mul-pos (den-pos H) (den-pos r)) (den-pos H) less)))
     where

@@ -15,7 +15,7 @@ use lib.Ieee.Bits.{ofBits-toBits}
 use lib.Ieee.Nearest.{div-same}
 use lib.Ieee.Scale.{finite}
 use Rattle.real.specs.Reals.{zero64, big64, magnitude}
-use Rattle.real.proofs.SignedOrder.{zero-of, toUnsigned-mono, lt→le, here-or-on, mag, sle-of, of-sle}
+use Rattle.real.proofs.SignedOrder.{zero-of, toUnsigned-mono, lt→le, here-or-on, sle-of, of-sle}
 
 -- ---- x - x is zero where x is finite, and NaN elsewhere
 pub untrue : (b : Bool) → (T b → ⊥) → b ≡ false
@@ -129,12 +129,6 @@ round-own f s m e h =
     go (fin t n d) q v = ap (λ (u : Bool). fin u n d) (v .0) ∙ same-value f s n m d e (subst (λ (u : Bool). T (fits f (fin u n d))) (v .0) q) h (v .1)
 
 -- ---- the size of a value
-
-pub magnitude-is : (x : Float) → magnitude x ≡ mag x
-unfolding magnitude mag
-magnitude-is nan = refl
-magnitude-is (inf s) = refl
-magnitude-is (fin s m e) = refl
 
 -- 0 - x for x at most 0
 pub size-below : (x : Float) → T (fits binary64 x) → T (le x zero64) → sub binary64 zero64 x ≡ magnitude x

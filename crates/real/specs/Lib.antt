@@ -1,2 +1,3 @@
 pub mod Fold
 pub mod Reals
+pub mod Fractions

@@ -1,8 +1,10 @@
 // Replays stored answers of 000, read from standard input, through the byte calls, and writes how many agree.
 //
 // A record: the byte lengths of coordinates, predictors, responses, output and summary; the numbers of predictors, kernel and kind;
-// the bandwidth; the refusal's number (8 bytes each). Then coordinates, predictors and responses, and output and summary as they
-// are after the call; before it every byte of them is A5. Each part has a length that its buffer below has room for.
+// the bandwidth; the refusal's number; the group of the comparison that the job is drawn from (8 bytes each). Then coordinates,
+// predictors and responses, and output and summary as they are after the call; before it every byte of them is A5. Each part has a
+// length that its buffer below has room for: 513 places, what 512 pantries with 7 predictors need, and some bytes more.
+// Group 0 is of the weight call, with its distance in the place of the number of predictors.
 ghost use Prim.Native.Nat.{_≤_};
 ghost use lib.ListN.{length};
 use libc::STDIN_FILENO;
@@ -14,6 +16,9 @@ const END: u64 = 0;
 const DIFFERS: u64 = 1;
 
 const AGREES: u64 = 2;
+
+// The group of the weight call.
+const WEIGHTS: u64 = 0;
 
 struct Tally {
     records: u64,
@@ -28,7 +33,28 @@ fn at_most(v: u64, most: usize) -> usize
     if w < most { w } else { most }
 }
 
-// Whether the fit call answers what the record says, and leaves the bytes that it says.
+// The number that the call of a record answers.
+fn answered(
+    head: &[u8],
+    coords: &[u8],
+    x: &[u8],
+    y: &[u8],
+    out: &mut [u8],
+    summary: &mut [u8],
+) -> u32
+    requires { ⌜ 88 ≤ length (now head) ⌝ }
+{
+    let p = wire::load(head, 40);
+    let kernel = wire::load(head, 48);
+    let kind = wire::load(head, 56);
+    let bandwidth = wire::load(head, 64);
+    if wire::load(head, 80) == WEIGHTS {
+        return calls::weight_bytes(kernel, p, bandwidth, out);
+    }
+    calls::fit_bytes(coords, x, y, p, kernel, kind, bandwidth, out, summary)
+}
+
+// Whether the call answers what the record says, and leaves the bytes that it says.
 fn agrees(
     head: &[u8],
     coords: &[u8],
@@ -39,19 +65,9 @@ fn agrees(
     out_after: &[u8],
     summary_after: &[u8],
 ) -> u64
-    requires { ⌜ 80 ≤ length (now head) ⌝ }
+    requires { ⌜ 88 ≤ length (now head) ⌝ }
 {
-    let number = calls::fit_bytes(
-        coords,
-        x,
-        y,
-        wire::load(head, 40),
-        wire::load(head, 48),
-        wire::load(head, 56),
-        wire::load(head, 64),
-        &mut *out,
-        &mut *summary,
-    );
+    let number = answered(head, coords, x, y, &mut *out, &mut *summary);
     if number as u64 != wire::load(head, 72) {
         return DIFFERS;
     }
@@ -66,13 +82,13 @@ fn agrees(
 
 // A record's parts, taken apart. Output and summary are lent with A5 in every byte.
 fn replay_read(head: &[u8], parts: &[u8], out: &mut [u8], summary: &mut [u8]) -> u64
-    requires { ⌜ (80 ≤ length (now head)) × (1024 ≤ length (now out)) × (32 ≤ length (now summary)) ⌝ }
+    requires { ⌜ (88 ≤ length (now head)) × (45056 ≤ length (now out)) × (64 ≤ length (now summary)) ⌝ }
 {
-    let out_len = at_most(wire::load(head, 24), 1024);
-    let summary_len = at_most(wire::load(head, 32), 32);
-    let a = at_most(wire::load(head, 0), 256);
-    let b = a + at_most(wire::load(head, 8), 512);
-    let c = b + at_most(wire::load(head, 16), 128);
+    let out_len = at_most(wire::load(head, 24), 45056);
+    let summary_len = at_most(wire::load(head, 32), 64);
+    let a = at_most(wire::load(head, 0), 8208);
+    let b = a + at_most(wire::load(head, 8), 28672);
+    let c = b + at_most(wire::load(head, 16), 4112);
     let d = c + out_len;
     let e = d + summary_len;
     if parts.len() < e {
@@ -92,31 +108,31 @@ fn replay_read(head: &[u8], parts: &[u8], out: &mut [u8], summary: &mut [u8]) ->
 
 // How many bytes follow a head.
 fn parts_len(head: &[u8]) -> usize
-    requires { ⌜ 80 ≤ length (now head) ⌝ }
-    ensures { λ r. ⌜ r ≤ 1952 ⌝ }
+    requires { ⌜ 88 ≤ length (now head) ⌝ }
+    ensures { λ r. ⌜ r ≤ 86112 ⌝ }
 {
-    let a = at_most(wire::load(head, 0), 256);
-    let b = a + at_most(wire::load(head, 8), 512);
-    let c = b + at_most(wire::load(head, 16), 128);
-    let d = c + at_most(wire::load(head, 24), 1024);
-    d + at_most(wire::load(head, 32), 32)
+    let a = at_most(wire::load(head, 0), 8208);
+    let b = a + at_most(wire::load(head, 8), 28672);
+    let c = b + at_most(wire::load(head, 16), 4112);
+    let d = c + at_most(wire::load(head, 24), 45056);
+    d + at_most(wire::load(head, 32), 64)
 }
 
 fn replay_parts(head: &[u8]) -> u64
-    requires { ⌜ 80 ≤ length (now head) ⌝ }
+    requires { ⌜ 88 ≤ length (now head) ⌝ }
 {
-    let mut parts = [0u8; 1952];
-    let mut out = [165u8; 1024];
-    let mut summary = [165u8; 32];
+    let mut parts = [0u8; 86112];
+    let mut out = [165u8; 45056];
+    let mut summary = [165u8; 64];
     let all = parts_len(head);
     let got = io::read_full(STDIN_FILENO, &mut parts[..all]);
     replay_read(head, &parts[..got], &mut out, &mut summary)
 }
 
 fn replay_record() -> u64 {
-    let mut head = [0u8; 80];
+    let mut head = [0u8; 88];
     let got = io::read_full(STDIN_FILENO, &mut head);
-    if got < 80 {
+    if got < 88 {
         return END;
     }
     replay_parts(&head)

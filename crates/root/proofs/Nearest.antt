@@ -18,42 +18,10 @@ use lib.Ieee.Bits.{ofBits-fits, is-true}
 use lib.Ieee.Positive.{num, den, den-pos, positive, positive-of-value, value→cross}
 use borrow.Author.Tests.{eq-eqb, ne-eqb}
 use Rattle.root.specs.Root.{root, rootUnits, inUnits, nearestRoot, unitsOfBits, zero64, inf64, Parted, Halved}
+use Rattle.root.specs.Nearest.{unsigned, MiddleBelow, MiddleAbove, leastNormal, NearestRoot}
 use Rattle.root.proofs.Powers.{four-pow, subnormal, parted, normal-size, normal-value, when-odd, when-even}
 use Rattle.root.proofs.Squares.{Close, nearest-close, nearest-bounds}
 use Rattle.root.proofs.Patterns.{Pattern, pattern, assembled, the-root-units}
-
--- ---- the claim
-
--- finite, with the sign clear
-abbrev pub unsigned : Float → Bool
-unsigned nan = false
-unsigned (inf s) = false
-unsigned (fin true m e) = false
-unsigned (fin false m e) = true
-
--- x + y is the fraction total x y / (den x * den y)
-abbrev pub total : Float → Float → ℕ
-total x y = num x * den y + num y * den x
-
--- (x + y)² < 4z and 4z < (x + y)²: the middle of x and y lies below the root of z, or above it
-abbrev pub MiddleBelow : Float → Float → Float → Type 0
-MiddleBelow x y z = total x y * total x y * den z < 4 * num z * (den x * den y * (den x * den y))
-
-abbrev pub MiddleAbove : Float → Float → Float → Type 0
-MiddleAbove x y z = 4 * num z * (den x * den y * (den x * den y)) < total x y * total x y * den z
-
--- 2^-1022
-abbrev pub leastNormal : Float
-leastNormal = fin false 1 (negsuc 1021)
-
--- r is a positive normal binary64, and the exact root of x lies nearer to r than to any other binary64 y from 0 up:
--- above the middle of r and a y below r, and below the middle of r and a y above r. A y below 0 lies farther away than 0 does.
-pub record NearestRoot (x r : Float) : Type 0 where
-  pub held : T (fits binary64 r)
-  pub is-positive : T (positive r)
-  pub is-normal : T (le leastNormal r)
-  pub below : (y : Float) → T (fits binary64 y) → T (unsigned y) → T (lt y r) → MiddleBelow r y x
-  pub above : (y : Float) → T (fits binary64 y) → T (unsigned y) → T (lt r y) → MiddleAbove r y x
 
 -- ---- small laws
 pow-back : (i j : ℕ) → 2 ^ i < 2 ^ j → i < j

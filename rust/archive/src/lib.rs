@@ -1,9 +1,10 @@
-//! For build scripts: links target/staticlib/libNAME.a of the repository. Where it is missing, or older than the sources of the
-//! crates in it, `rt staticlib NAME` proves them and writes it.
+//! For build scripts: links target/staticlib/libNAME.a of the repository. `scripts/prove.sh NAME` has it at hand: where it is missing,
+//! or older than the sources of the crates in it, it proves them and writes it, in some minutes and in its turn (scripts/turn.sh: cargo
+//! runs the build scripts of several packages at once). Cargo shows nothing of what a build script says until it ends, so whoever wants
+//! to see the proofs go by runs that script before cargo, as `make fit` does.
 
 use std::path::{Path, PathBuf};
 use std::process::{self, Command};
-use std::time::SystemTime;
 use std::{env, fs};
 
 /// Has cargo show this one line and fail the build: a status other than 0 would show all that was printed here.
@@ -31,48 +32,36 @@ fn crates_of(root: &Path, name: &str) -> Vec<String> {
     wanted
 }
 
-/// The latest change of a file below a folder.
-fn latest(folder: &Path) -> Option<SystemTime> {
-    let entries = fs::read_dir(folder).ok()?.flatten();
-    entries
-        .filter_map(|e| match e.file_type().ok()?.is_dir() {
-            true => latest(&e.path()),
-            false => e.metadata().ok()?.modified().ok(),
-        })
-        .max()
-}
-
-/// The latest change of a source of a crate or of what it is made of. Has cargo look for changes of them.
-fn newest_source(root: &Path, name: &str) -> Option<SystemTime> {
-    let mut newest = None;
+/// Has cargo look for changes of the sources of a crate and of what it is made of.
+fn watch_sources(root: &Path, name: &str) {
     for name in crates_of(root, name) {
         for part in ["src", "specs", "proofs"] {
             let sources = root.join("crates").join(&name).join(part);
             if sources.is_dir() {
                 println!("cargo::rerun-if-changed={}", sources.display());
-                newest = newest.max(latest(&sources));
             }
         }
     }
-    newest
 }
 
-/// Proves a crate and writes its archive.
-fn build(root: &Path, name: &str) {
-    let made = Command::new("rt")
-        .args(["staticlib", name])
+/// Has the archive of a crate made, where it is missing or old.
+fn make(root: &Path, name: &str) {
+    let made = Command::new("bash")
+        .args(["scripts/prove.sh", name])
         .current_dir(root)
         .output();
     match made {
         Err(_) => stop(&format!(
-            "target/staticlib/lib{name}.a is missing or old, and the Rattle toolchain that makes it is not there: no command rt"
+            "there is no command bash for scripts/prove.sh, which makes target/staticlib/lib{name}.a"
         )),
         Ok(out) if !out.status.success() => {
-            for line in String::from_utf8_lossy(&out.stdout).lines().rev().take(5) {
+            let said = String::from_utf8_lossy(&out.stderr);
+            let said: Vec<&str> = said.lines().collect();
+            for line in &said[said.len().saturating_sub(5)..] {
                 println!("cargo::warning={line}");
             }
             stop(&format!(
-                "rt staticlib {name} failed; run it in the repository to see why"
+                "scripts/prove.sh {name} failed; run it in the repository to see why"
             ));
         }
         Ok(_) => {}
@@ -89,14 +78,11 @@ pub fn link(name: &str) -> PathBuf {
     let archive = folder.join(format!("lib{name}.a"));
     println!("cargo::rerun-if-changed=build.rs");
     println!("cargo::rerun-if-changed={}", archive.display());
-    let newest = newest_source(root, name);
-    let built = fs::metadata(&archive).and_then(|m| m.modified()).ok();
-    if built.is_none() || built < newest {
-        build(root, name);
-    }
+    watch_sources(root, name);
+    make(root, name);
     if !archive.is_file() {
         stop(&format!(
-            "rt staticlib {name} wrote no target/staticlib/lib{name}.a"
+            "scripts/prove.sh {name} wrote no target/staticlib/lib{name}.a"
         ));
     }
     println!("cargo::rustc-link-search=native={}", folder.display());
@@ -116,6 +102,5 @@ mod tests {
         let all = crates_of(root, "gateway");
         assert!(all.iter().any(|name| name == "root"));
         assert!(all.iter().all(|name| name != "measured"));
-        assert!(newest_source(root, "gateway") >= newest_source(root, "root"));
     }
 }

@@ -2,78 +2,98 @@
 //!
 //! Compared are the refusal, the summary (bandwidth, AICc, solve count), every number of the output by its bits, and that no
 //! other byte of the buffers lent was written. A NaN of 000 stands for any; the byte call's must be 7FF8000000000000.
+//! A run with no number given also sees that every kind of job that it drew is among the stored answers of crates/replay.
 //! The exit status is 0 when all agree and every refusal from 1 to 18 occurred, 3 when 000 is not at hand.
 
-mod jobs;
 mod tally;
 
+use oracle::jobs::{Group, RANDOM_JOBS};
+use oracle::stored::{Stored, file};
+use std::collections::BTreeSet;
 use std::process::ExitCode;
+use std::time::Instant;
 use tally::Tally;
 
-/// Random jobs of a run with no number given.
-const RANDOM_JOBS: u64 = 24_000;
+/// Kinds that are named where they are not stored.
+const NAMED: usize = 5;
+
+/// Compares a group, and says how long it took where that is asked for.
+fn compare(group: Group, count: u64) -> Tally {
+    let start = Instant::now();
+    let t = Tally::of(group, count);
+    if std::env::var_os("COMPARE_TIMES").is_some() {
+        let jobs = t.passed + t.failed;
+        let seconds = start.elapsed().as_secs_f64();
+        println!("{}: {jobs} in {seconds:.1} s", group.name());
+    }
+    t
+}
+
+/// Compares all groups: the searches, which take as long as all others, beside them.
+fn compare_all(count: u64) -> Vec<Tally> {
+    std::thread::scope(|scope| {
+        let searches = scope.spawn(|| compare(Group::Searches, count));
+        let others = Group::ALL.iter().filter(|g| **g != Group::Searches);
+        let mut all: Vec<Tally> = others.map(|group| compare(*group, count)).collect();
+        all.push(searches.join().expect("it does not panic"));
+        all
+    })
+}
+
+/// Prints how often each number was answered, and says whether each was.
+fn every_number(all: &[Tally]) -> bool {
+    println!("number  fit call  weight call");
+    let mut absent = Vec::new();
+    for number in 0..19 {
+        let fits: u64 = all.iter().map(|t| t.fits[number]).sum();
+        let weights: u64 = all.iter().map(|t| t.weights[number]).sum();
+        println!("{number:>6}  {fits:>8}  {weights:>11}");
+        if fits + weights == 0 {
+            absent.push(number.to_string());
+        }
+    }
+    if !absent.is_empty() {
+        println!("no job was answered {}", absent.join(", "));
+    }
+    absent.is_empty()
+}
+
+/// Whether the stored answers have every kind of job that was compared.
+fn every_kind_stored(all: &[Tally]) -> bool {
+    let stored = std::fs::read(file()).ok();
+    let Some(stored) = stored.and_then(|bytes| Stored::read_all(&bytes)) else {
+        println!("crates/replay/stdin is not made of whole records");
+        return false;
+    };
+    let stored: BTreeSet<String> = stored.iter().flat_map(Stored::kinds).collect();
+    let lacking = || all.iter().flat_map(|t| t.kinds.difference(&stored));
+    for kind in lacking().take(NAMED) {
+        println!("no stored answer (make store): {kind}");
+    }
+    lacking().next().is_none()
+}
 
 fn main() -> ExitCode {
     if !oracle::AVAILABLE {
         println!("{}", oracle::MISSING);
         return ExitCode::from(3);
     }
-    let count = match std::env::args().nth(1).map(|a| a.parse()) {
-        None => RANDOM_JOBS,
-        Some(Ok(count)) => count,
-        Some(Err(_)) => {
+    let given = match std::env::args().nth(1).map(|a| a.parse()).transpose() {
+        Ok(given) => given,
+        Err(_) => {
             eprintln!("usage: compare [RANDOM_JOBS]");
             return ExitCode::from(2);
         }
     };
-    let start = std::time::Instant::now();
-    let mut t = Tally::new();
-    let timing = std::env::var_os("COMPARE_TIMES").is_some();
-    let mut lap = start;
-    let mut done = |name: &str, t: &Tally| {
-        if timing {
-            t.clear();
-            println!(
-                "{name}: {:.1} s, {} so far",
-                lap.elapsed().as_secs_f64(),
-                t.passed + t.failed
-            );
-        }
-        lap = std::time::Instant::now();
-    };
-    jobs::weights(&mut t);
-    done("weights", &t);
-    jobs::grid(&mut t);
-    done("grid", &t);
-    jobs::corners(&mut t);
-    done("corners", &t);
-    jobs::boundaries(&mut t);
-    done("boundaries", &t);
-    jobs::damaged(&mut t, 24 + count / 400);
-    done("damaged", &t);
-    jobs::safe_crate(&mut t, 24 + count / 40);
-    done("safe crate", &t);
-    jobs::random_jobs(&mut t, count);
-    done("random", &t);
-    t.clear();
-
-    println!("number  fit call  weight call");
-    let mut absent = Vec::new();
-    for number in 0..19 {
-        println!(
-            "{number:>6}  {:>8}  {:>11}",
-            t.fits[number], t.weights[number]
-        );
-        if t.fits[number] + t.weights[number] == 0 {
-            absent.push(number.to_string());
-        }
-    }
+    let start = Instant::now();
+    let all = compare_all(given.unwrap_or(RANDOM_JOBS));
+    let numbers = every_number(&all);
+    let stored = given.is_some() || every_kind_stored(&all);
+    let passed: u64 = all.iter().map(|t| t.passed).sum();
+    let failed: u64 = all.iter().map(|t| t.failed).sum();
     println!("{:.0} seconds", start.elapsed().as_secs_f64());
-    if !absent.is_empty() {
-        println!("no job was answered {}", absent.join(", "));
-    }
-    println!("{} comparisons passed, {} failed", t.passed, t.failed);
-    if t.failed == 0 && absent.is_empty() {
+    println!("comparison with 000: {passed} jobs equal, {failed} different");
+    if failed == 0 && numbers && stored {
         ExitCode::SUCCESS
     } else {
         ExitCode::FAILURE

@@ -2,7 +2,10 @@
 
 use compare::proved;
 use gateway::{GwrBandwidth, GwrKernel, GwrOptions, Refusal, gwr_fit};
-use oracle::{FILL, Job, bytes, reals};
+use oracle::jobs::{Group, Take};
+use oracle::stored::{kinds, weight_job};
+use oracle::{Answer, FILL, Job, bytes, reals};
+use std::collections::BTreeSet;
 use std::io::{IsTerminal, Write};
 use std::time::{Duration, Instant};
 
@@ -19,7 +22,9 @@ pub struct Tally {
     pub passed: u64,
     /// They did not.
     pub failed: u64,
-    phase: &'static str,
+    /// The kinds of job that were compared.
+    pub kinds: BTreeSet<String>,
+    group: Group,
     terminal: bool,
     shown: Instant,
 }
@@ -72,34 +77,39 @@ fn difference(name: &str, ours: &[u8], theirs: &[u8]) -> Option<String> {
 }
 
 impl Tally {
+    /// A group compared, with so many random jobs.
+    pub fn of(group: Group, count: u64) -> Self {
+        let mut t = Tally::new(group);
+        group.draw(count, &mut t);
+        t.clear();
+        t
+    }
+
     /// Nothing compared yet.
-    pub fn new() -> Self {
+    fn new(group: Group) -> Self {
         Tally {
             fits: [0; 19],
             weights: [0; 19],
             passed: 0,
             failed: 0,
-            phase: "",
+            kinds: BTreeSet::new(),
+            group,
             terminal: std::io::stderr().is_terminal(),
             shown: Instant::now(),
         }
     }
 
-    /// Names what follows, for the progress line.
-    pub fn phase(&mut self, name: &'static str) {
-        self.phase = name;
-    }
-
     fn progress(&mut self) {
         if self.terminal && self.shown.elapsed() > Duration::from_millis(200) {
             self.shown = Instant::now();
-            eprint!("\r{:<28} {:>9} compared\x1b[K", self.phase, self.passed);
+            let name = self.group.name();
+            eprint!("\r{name:<28} {:>9} compared\x1b[K", self.passed);
             std::io::stderr().flush().ok();
         }
     }
 
     /// Takes the progress line away.
-    pub fn clear(&self) {
+    fn clear(&self) {
         if self.terminal {
             eprint!("\r\x1b[K");
         }
@@ -114,7 +124,7 @@ impl Tally {
                 self.clear();
                 println!(
                     "DIFFERENT ({}): {}",
-                    self.phase,
+                    self.group.name(),
                     differences.first().expect("one at least")
                 );
                 println!("  {}", what());
@@ -122,12 +132,14 @@ impl Tally {
         }
         self.progress();
     }
+}
 
-    /// Compares the fit call on a job.
-    pub fn fit(&mut self, job: &Job) {
+impl Take for Tally {
+    fn fit(&mut self, job: &Job) {
         let ours = proved(job);
         let theirs = job.expected();
         self.fits[(ours.number as usize).min(18)] += 1;
+        self.kinds.extend(kinds(self.group, job, &theirs));
         let mut differences = Vec::new();
         if ours.number != theirs.number {
             differences.push(format!(
@@ -151,10 +163,10 @@ impl Tally {
         });
     }
 
-    /// Compares the safe crate's call, and its weights, on a job of right byte lengths and known numbers. A refused job has only
-    /// its number to compare.
-    pub fn safe(&mut self, job: &Job) {
+    /// Compares the safe crate's call. A refused job has only its number to compare.
+    fn safe(&mut self, job: &Job) {
         let expected = job.expected();
+        self.kinds.extend(kinds(self.group, job, &expected));
         let mut differences = Vec::new();
         match safe_answer(job) {
             Ok((out, summary)) => {
@@ -172,8 +184,7 @@ impl Tally {
         self.count(&differences, || format!("safe crate, {job:?}"));
     }
 
-    /// Compares the weight call.
-    pub fn weight(&mut self, kernel: u64, d: u64, b: u64, room: usize) {
+    fn weight(&mut self, kernel: u64, d: u64, b: u64, room: usize) {
         let mut out = vec![FILL; room];
         let number = gateway::bytes::weight(kernel, d, b, &mut out);
         let (expected, bytes) = oracle::expected_weight(kernel, d, b, room);
@@ -183,6 +194,13 @@ impl Tally {
             differences.push(format!("refusal: proved {number}, expected {expected}"));
         }
         differences.extend(difference("weight", &out, &bytes));
+        let theirs = Answer {
+            number: expected,
+            out: bytes,
+            summary: Vec::new(),
+        };
+        let job = weight_job(kernel, d, b, room);
+        self.kinds.extend(kinds(self.group, &job, &theirs));
         self.count(&differences, || {
             format!("kernel {kernel} d {d:016X} b {b:016X} room {room}")
         });
@@ -192,6 +210,7 @@ impl Tally {
 #[cfg(test)]
 mod tests {
     use super::*;
+    use oracle::stored::{Stored, file};
 
     #[test]
     fn a_difference_is_named() {
@@ -214,10 +233,32 @@ mod tests {
 
     #[test]
     fn agreement_and_difference_are_counted() {
-        let mut t = Tally::new();
+        let mut t = Tally::new(Group::Corners);
         t.count(&[], String::new);
         t.count(&["planted".to_string()], || "a test".to_string());
         assert_eq!((t.passed, t.failed), (1, 1));
+    }
+
+    /// The calls of the linked archive, and the safe crate, on what crates/replay holds: 000 need not be there.
+    #[test]
+    fn stored_answers_by_the_archive() {
+        let bytes = std::fs::read(file()).expect("crates/replay/stdin is there");
+        for stored in Stored::read_all(&bytes).expect("whole records") {
+            let (job, answer) = (&stored.job, &stored.answer);
+            if stored.group == Group::Weights {
+                let mut out = vec![FILL; job.out_len];
+                let number = gateway::bytes::weight(job.kernel, job.p, job.bandwidth, &mut out);
+                assert_eq!((number, out), (answer.number, answer.out.clone()));
+                continue;
+            }
+            assert_eq!(proved(job), *answer, "{job:?}");
+            if stored.group == Group::SafeCrate {
+                match safe_answer(job) {
+                    Ok(fit) => assert_eq!(fit, (answer.out.clone(), answer.summary.clone())),
+                    Err(refusal) => assert_eq!(refusal.number(), answer.number),
+                }
+            }
+        }
     }
 
     #[test]

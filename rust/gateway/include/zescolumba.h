@@ -1,7 +1,11 @@
 /* The byte calls of the proved regression: link target/staticlib/libgateway.a, which `rt staticlib gateway` writes.
  *
  * Every number crosses as 8 bytes, little-endian: an f64 by its bits, a count as it is. Nothing is kept between calls, no memory
- * is taken, and calls from several threads do not meet. Slices may be empty; a slice's pointer is then not read. */
+ * is taken, and calls from several threads do not meet. Slices may be empty; a slice's pointer is then not read.
+ *
+ * What a call writes is lent to it alone: output and summary overlap neither each other nor the inputs, and while it runs no other
+ * thread touches them or writes the inputs. The proofs take this as given, and the call does not check it. Inputs may overlap each
+ * other. */
 #ifndef ZESCOLUMBA_H
 #define ZESCOLUMBA_H
 

@@ -127,6 +127,15 @@ fn place(g: &mut Rng, style: Style) -> [f64; 2] {
 /// A random job of this kernel and kind with n observations and p predictors. Few have a value that is not finite.
 pub fn random(g: &mut Rng, n: u64, p: u64, kernel: u64, kind: u64) -> Job {
     let style = g.pick(&STYLES);
+    styled(g, style, (n, p), kernel, kind)
+}
+
+/// The same, with a response that follows the predictors.
+pub fn linear(g: &mut Rng, n: u64, p: u64, kernel: u64, kind: u64) -> Job {
+    styled(g, Style::Linear, (n, p), kernel, kind)
+}
+
+fn styled(g: &mut Rng, style: Style, (n, p): (u64, u64), kernel: u64, kind: u64) -> Job {
     let mut coords = Vec::new();
     let mut x = Vec::new();
     let mut y = Vec::new();

@@ -7,6 +7,9 @@
 #![forbid(unsafe_code)]
 
 pub mod generate;
+pub mod jobs;
+pub mod listings;
+pub mod stored;
 #[cfg_attr(not(gwr_source), allow(dead_code))]
 mod support;
 

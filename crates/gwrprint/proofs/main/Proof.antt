@@ -1,7 +1,9 @@
 -- `gwrprint::main` is safe.
 use borrow.Author.Needs.{needs}
-use Rattle.listing.proofs.Texts.{number-small}
-use Rattle.gwrprint.proofs.Ends.{head-sized}
+use Prim.Native.Nat.{_≤_}
+use lib.ListN.{length}
+use Rattle.listing.proofs.Texts.{end-within}
+use Rattle.gwrprint.proofs.Ends.{part-long}
 use Rattle.gwrprint.proofs.main.Statement.{statement}
 use Rattle.gwrprint.proofs.main.Tie as tie
 
@@ -12,12 +14,10 @@ main-spec =
     (λ c. search needs)
     (λ c κs. search needs)
     (λ c. search needs)
+    (λ c. let h : c .before .before .read-input .result ≤ length (c .before .before .read-input .last .0) = search needs in part-long _ _ h)
     (λ c. search needs)
     (λ c κs. search needs)
-    (λ c. search needs)
+    (λ c. end-within _ _ _ _ (c .before .print-input .ensures))
+    (λ c. part-long _ _ (end-within _ _ _ _ (c .before .before .print-input .ensures)))
     (λ c κs. search needs)
-    (λ c κs. number-small (c .before .before .header .given .0 .0) _ (c .number .ensures))
-    (λ c. search needs)
-    (λ c κs. head-sized _ _ _ (c .before .before .before .read-header .ensures) (c .before .header2 .given .1))
-    (λ c. search needs)
     (λ c. search needs))

@@ -3,7 +3,7 @@ use borrow.Author.Needs.{needs}
 use Prim.Native.Nat.{_-_}
 use Rattle.real.proofs.Fold.{Range, none, more, done}
 use Rattle.real.specs.Reals.{zero64}
-use Rattle.kernel.proofs.Reaches.{distance-is}
+use Rattle.kernel.proofs.Reaches.{distance-is, reaches}
 use Rattle.normal.specs.Weights.{weighStep, weightsBy, weightFrom}
 use Rattle.normal.proofs.weigh.Statement.{statement}
 use Rattle.normal.proofs.weigh.Tie as tie
@@ -32,7 +32,7 @@ weigh-spec =
     (λ c κs. search needs)
     (λ c. search needs)
     (λ c. search needs)
-    (λ c κs. search needs)
+    (λ c κs. reaches (search needs))
     (λ c. search needs)
     (λ c. search needs)
     (λ c. search needs)

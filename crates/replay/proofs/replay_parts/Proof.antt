@@ -11,10 +11,10 @@ replay-parts-spec =
     (tie.spec
     (λ c κs. search needs)
     (λ c. search needs)
-    (λ c. zeros-long _ 1952 (c .before .parts-len .ensures))
+    (λ c. zeros-long _ 86112 (c .before .parts-len .ensures))
     (λ c κs. search needs)
-    (λ c. front-within _ (c .before .read-full .last .1 .0) (drop (c .before .before .before .parts-len .result) (replicate 1952 0)) (c .before .read-full .ensures .0))
-    (λ c. part-long _ _ (front-within _ (c .before .before .read-full .last .1 .0) (drop (c .before .before .before .before .parts-len .result) (replicate 1952 0)) (c .before .before .read-full .ensures .0)))
+    (λ c. front-within _ (c .before .read-full .last .1 .0) (drop (c .before .before .before .parts-len .result) (replicate 86112 0)) (c .before .read-full .ensures .0))
+    (λ c. part-long _ _ (front-within _ (c .before .before .read-full .last .1 .0) (drop (c .before .before .before .before .parts-len .result) (replicate 86112 0)) (c .before .before .read-full .ensures .0)))
     (λ c. search needs)
     (λ c. search needs)
     (λ c κs. search needs)

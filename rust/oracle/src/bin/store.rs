@@ -1,75 +1,104 @@
-//! Writes stored jobs with 000's answers to standard output, for crates/replay: `store COUNT`.
+//! Writes stored answers of 000 and what the program that replays them then says: `store` writes crates/replay/stdin and stdout.
 //!
-//! A record: the byte lengths of coordinates, predictors, responses, output and summary; the numbers of predictors, kernel and
-//! kind; the bandwidth; the refusal's number (8 bytes each). Then coordinates, predictors and responses, and output and summary
-//! as they are after the call. Bytes that the call does not write are A5.
+//! Of all jobs that the comparison draws it keeps the first of each kind (see [`oracle::stored::kinds`]), and three searches with
+//! 512 observations. Where every job of a kind is large, it keeps the smallest.
 
-use oracle::generate::{Rng, random};
-use std::io::Write;
+use oracle::Job;
+use oracle::jobs::{Group, RANDOM_JOBS, Take};
+use oracle::stored::{Stored, file, has_room, size, weight_job};
+use std::collections::{BTreeMap, BTreeSet};
 use std::process::ExitCode;
 
-/// The largest job that the replaying program takes.
-const MOST_OBSERVATIONS: u64 = 12;
-const MOST_PREDICTORS: u64 = 3;
+/// Bytes of a record that is kept at once; of larger ones the smallest is kept when no other job is of its kind.
+const AT_ONCE: usize = 512;
+
+/// The jobs kept of a group.
+struct Keeper {
+    group: Group,
+    seen: BTreeSet<String>,
+    kept: Vec<Stored>,
+    large: BTreeMap<String, Stored>,
+}
+
+impl Keeper {
+    fn draw(group: Group) -> Vec<Stored> {
+        let mut keeper = Keeper {
+            group,
+            seen: BTreeSet::new(),
+            kept: Vec::new(),
+            large: BTreeMap::new(),
+        };
+        group.draw(RANDOM_JOBS, &mut keeper);
+        for one in std::mem::take(&mut keeper.large).into_values() {
+            keeper.keep(one);
+        }
+        keeper.kept
+    }
+
+    /// Keeps what is of a new kind.
+    fn keep(&mut self, one: Stored) {
+        let before = self.seen.len();
+        self.seen.extend(one.kinds());
+        if self.seen.len() > before {
+            self.kept.push(one);
+        }
+    }
+
+    fn take(&mut self, job: &Job) {
+        if !has_room(job) {
+            return;
+        }
+        let one = Stored::new(self.group, job);
+        let bytes = size(job);
+        if bytes <= AT_ONCE {
+            self.keep(one);
+        } else if self.group == Group::Searches && job.n() == 512 && job.p == 0 {
+            self.seen.extend(one.kinds());
+            self.kept.push(one);
+        } else {
+            for kind in one.kinds() {
+                let smaller = |s: &Stored| bytes < size(&s.job);
+                if self.large.get(&kind).is_none_or(smaller) {
+                    self.large.insert(kind, one.clone());
+                }
+            }
+        }
+    }
+}
+
+impl Take for Keeper {
+    fn fit(&mut self, job: &Job) {
+        self.take(job);
+    }
+
+    fn safe(&mut self, job: &Job) {
+        self.take(job);
+    }
+
+    fn weight(&mut self, kernel: u64, d: u64, b: u64, room: usize) {
+        self.take(&weight_job(kernel, d, b, room));
+    }
+}
 
 fn main() -> ExitCode {
     if !oracle::AVAILABLE {
         eprintln!("{}", oracle::MISSING);
         return ExitCode::FAILURE;
     }
-    let Some(count) = std::env::args().nth(1).and_then(|a| a.parse().ok()) else {
-        eprintln!("usage: store COUNT >FILE");
-        return ExitCode::from(2);
-    };
-    let mut g = Rng::new(0x5104E);
-    let mut all = Vec::new();
-    for i in 0..count {
-        let n = 1 + g.below(MOST_OBSERVATIONS);
-        let p = g.below(MOST_PREDICTORS + 1);
-        let kernel = g.below(3);
-        // One in six is searched, so that a replay stays short.
-        let kind = match i % 12 {
-            0 => 2,
-            6 => 3,
-            _ => g.below(2),
-        };
-        let mut job = random(&mut g, n, p, kernel, kind);
-        // Some with a part too short, a value that is not finite, or more room than is written.
-        match i % 40 {
-            1 => job.coords[..8].copy_from_slice(&f64::NAN.to_le_bytes()),
-            7 => job.y[..8].copy_from_slice(&f64::NAN.to_le_bytes()),
-            3 if p > 0 => job.x[..8].copy_from_slice(&f64::INFINITY.to_le_bytes()),
-            5 => job.coords.truncate(job.coords.len() - 8),
-            9 => job.coords.clear(),
-            13 => job.x.push(1),
-            17 => job.y.truncate(job.y.len() - 1),
-            21 => job.out_len -= 1,
-            25 => job.summary_len -= 1,
-            29 => job.kernel = 3,
-            33 => job.kind = 4,
-            35 => job.p = 8,
-            37 => job.out_len += 16,
-            _ => {}
-        }
-        let answer = job.expected();
-        let head = [
-            job.coords.len() as u64,
-            job.x.len() as u64,
-            job.y.len() as u64,
-            job.out_len as u64,
-            job.summary_len as u64,
-            job.p,
-            job.kernel,
-            job.kind,
-            job.bandwidth,
-            u64::from(answer.number),
-        ];
-        all.extend(head.iter().flat_map(|v| v.to_le_bytes()));
-        for part in [&job.coords, &job.x, &job.y, &answer.out, &answer.summary] {
-            all.extend(part);
-        }
+    let mut bytes = Vec::new();
+    let mut count = 0;
+    for group in Group::ALL {
+        let kept = Keeper::draw(group);
+        count += kept.len();
+        let before = bytes.len();
+        bytes.extend(kept.iter().flat_map(Stored::bytes));
+        let (name, more) = (group.name(), bytes.len() - before);
+        println!("{name}: {} answers, {more} bytes", kept.len());
     }
-    match std::io::stdout().write_all(&all) {
+    let said = format!("{count} of {count} stored answers agree\n");
+    let stdin = file();
+    let stdout = stdin.with_file_name("stdout");
+    match std::fs::write(stdin, bytes).and_then(|()| std::fs::write(stdout, said)) {
         Ok(()) => ExitCode::SUCCESS,
         Err(e) => {
             eprintln!("store: {e}");

@@ -1,7 +1,7 @@
 -- The eleven examples, by computing: `eleven`.
 use mathlib.Core.Path.{refl}
-use Rattle.claims.specs.Examples.{ElevenExamples}
-use Rattle.claims.proofs.Computing.{fitting}
+use Rattle.examples.specs.Examples.{ElevenExamples}
+use Rattle.examples.proofs.Computing.{fitting}
 
 pub eleven : ElevenExamples
 unfolding fitting

@@ -1,8 +1,85 @@
-//! The jobs that are compared.
+//! The jobs that are compared, and of which the stored answers are a selection. Seeds are fixed: the same ones come each time.
 
-use crate::tally::Tally;
-use oracle::generate::{DISTANCES, Rng, random};
-use oracle::{Job, bytes};
+use crate::generate::{DISTANCES, Rng, linear, random};
+use crate::{Job, bytes};
+
+/// Random jobs of a run with no number given.
+pub const RANDOM_JOBS: u64 = 24_000;
+
+/// A group of jobs. Its place here is its number in a stored answer; crates/replay knows that 0 is the weight call.
+#[derive(Debug, Clone, Copy, PartialEq, Eq, PartialOrd, Ord)]
+pub enum Group {
+    /// The weight call.
+    Weights,
+    /// Few observations, and few values.
+    SmallGrid,
+    /// Overflows, infinite distances, equal scores.
+    Corners,
+    /// Numbers of observations around each limit.
+    Boundaries,
+    /// Jobs with something wrong.
+    Damaged,
+    /// Random jobs by the safe crate.
+    SafeCrate,
+    /// Random jobs.
+    Random,
+    /// Searches with more observations.
+    Searches,
+}
+
+impl Group {
+    /// All groups, in the order of their numbers.
+    pub const ALL: [Group; 8] = [
+        Group::Weights,
+        Group::SmallGrid,
+        Group::Corners,
+        Group::Boundaries,
+        Group::Damaged,
+        Group::SafeCrate,
+        Group::Random,
+        Group::Searches,
+    ];
+
+    /// What it is called.
+    pub fn name(self) -> &'static str {
+        match self {
+            Group::Weights => "weights",
+            Group::SmallGrid => "small grid",
+            Group::Corners => "corners",
+            Group::Boundaries => "boundaries",
+            Group::Damaged => "damaged copies",
+            Group::SafeCrate => "safe crate",
+            Group::Random => "random",
+            Group::Searches => "searches",
+        }
+    }
+
+    /// Draws the group's jobs, of a run with so many random ones.
+    pub fn draw(self, count: u64, t: &mut impl Take) {
+        match self {
+            Group::Weights => weights(t),
+            Group::SmallGrid => grid(t),
+            Group::Corners => corners(t),
+            Group::Boundaries => boundaries(t),
+            Group::Damaged => damaged(t, 24 + count / 400),
+            Group::SafeCrate => safe_crate(t, 24 + count / 40),
+            Group::Random => random_jobs(t, count),
+            Group::Searches => searches(t),
+        }
+    }
+}
+
+/// What is done with the jobs of a group, one by one.
+pub trait Take {
+    /// A job of the fit call.
+    fn fit(&mut self, job: &Job);
+
+    /// A job for the safe crate: of right byte lengths and known numbers.
+    fn safe(&mut self, job: &Job);
+
+    /// A weight call: kernel, bits of distance and bandwidth, bytes lent.
+    fn weight(&mut self, kernel: u64, d: u64, b: u64, room: usize);
+}
 
 /// Jobs of the small grid, for each of its shapes and choices, at most.
 const GRID_CAP: u64 = 1200;
@@ -14,8 +91,7 @@ const NOT_FINITE: [f64; 3] = [f64::NAN, f64::INFINITY, f64::NEG_INFINITY];
 
 /// Every job with n ≤ 3, p ≤ 1 and values of the grid, each kernel, each kind and five bandwidths; where there are more than
 /// the cap of one shape and choice, every s-th of them, with s prime to 2, 3 and 5, so that every value comes in every place.
-pub fn grid(t: &mut Tally) {
-    t.phase("small grid");
+fn grid(t: &mut impl Take) {
     for n in 1..=3u64 {
         for p in 0..=1u64 {
             let places = n * (3 + p);
@@ -51,8 +127,7 @@ pub fn grid(t: &mut Tally) {
 }
 
 /// Random jobs, every kernel and kind in turn; half are searched.
-pub fn random_jobs(t: &mut Tally, count: u64) {
-    t.phase("random jobs");
+fn random_jobs(t: &mut impl Take, count: u64) {
     let mut g = Rng::new(0xC0113A6E);
     for i in 0..count {
         let (kernel, kind) = (i % 3, i / 3 % 4);
@@ -75,8 +150,7 @@ pub fn random_jobs(t: &mut Tally, count: u64) {
 }
 
 /// Random jobs by the safe crate.
-pub fn safe_crate(t: &mut Tally, count: u64) {
-    t.phase("safe crate");
+fn safe_crate(t: &mut impl Take, count: u64) {
     let mut g = Rng::new(0x5AFE);
     for i in 0..count {
         let p = g.below(8);
@@ -86,8 +160,7 @@ pub fn safe_crate(t: &mut Tally, count: u64) {
 }
 
 /// Numbers of observations around each limit. Large ones are few, and searched only once.
-pub fn boundaries(t: &mut Tally) {
-    t.phase("boundaries");
+fn boundaries(t: &mut impl Take) {
     let mut g = Rng::new(0xB0DE);
     for p in 0..=8u64 {
         for n in [1, 2, 3, p.max(1), p + 1, p + 2, 2 * p + 3] {
@@ -105,6 +178,32 @@ pub fn boundaries(t: &mut Tally) {
     t.fit(&random(&mut g, 600, 8, 0, 0));
     t.fit(&random(&mut g, 64, 2, 1, 3));
     t.fit(&random(&mut g, 64, 1, 0, 2));
+    // 513 places and nothing else.
+    t.fit(&Job::new(
+        &[1.0; 2 * 513],
+        &[],
+        &[],
+        0,
+        (0, 0, 1.0f64.to_bits()),
+    ));
+}
+
+/// Searches with n from 22 to 512: most below 122, some from 130 to 460, and one of each kernel and kind with 512.
+fn searches(t: &mut impl Take) {
+    let mut g = Rng::new(0x5EA2C4);
+    for i in 0..240 {
+        let n = 22 + g.below(100).min(g.below(100));
+        let p = g.below(8).min(g.below(8));
+        t.fit(&random(&mut g, n, p, i % 3, 2 + i / 3 % 2));
+    }
+    for i in 0..12 {
+        let p = g.below(4);
+        t.fit(&random(&mut g, 130 + 30 * i, p, i % 3, 2 + i / 3 % 2));
+    }
+    for choice in 0..6 {
+        let p = [0, 1, 0, 2, 0, 1][choice as usize];
+        t.fit(&linear(&mut g, 512, p, choice % 3, 2 + choice / 3));
+    }
 }
 
 /// One byte more, one less, one number more and less, and none.
@@ -118,7 +217,7 @@ fn lengths(part: &[u8]) -> Vec<Vec<u8>> {
 }
 
 /// Copies of a job with something wrong, each compared.
-fn damaged_copies(t: &mut Tally, job: &Job) {
+fn damaged_copies(t: &mut impl Take, job: &Job) {
     let n = job.n() as u64;
     let mut with = |change: &dyn Fn(&mut Job)| {
         let mut copy = job.clone();
@@ -231,8 +330,7 @@ fn damaged_copies(t: &mut Tally, job: &Job) {
 }
 
 /// Damaged copies of random jobs.
-pub fn damaged(t: &mut Tally, count: u64) {
-    t.phase("damaged copies");
+fn damaged(t: &mut impl Take, count: u64) {
     let mut g = Rng::new(0xDA3A6ED);
     for i in 0..count {
         let p = g.below(4);
@@ -244,12 +342,11 @@ pub fn damaged(t: &mut Tally, count: u64) {
 }
 
 /// Jobs that earlier work found to be corners.
-pub fn corners(t: &mut Tally) {
-    t.phase("corners");
+fn corners(t: &mut impl Take) {
     let mut g = Rng::new(0xC0EE5);
     for choice in 0..12 {
         let (kernel, kind) = (choice % 3, choice / 3);
-        // A leverage that overflows leaves a NaN in AICc: large predictors.
+        // Large predictors, whose leverages may overflow.
         for scale in [1e70, 1e75, 1e77, 1e100, 1e150, 1e153] {
             for _ in 0..6 {
                 let mut job = random(&mut g, 5, 3, kernel, kind);
@@ -287,8 +384,7 @@ pub fn corners(t: &mut Tally) {
 }
 
 /// The weight call over distances and bandwidths with every special value.
-pub fn weights(t: &mut Tally) {
-    t.phase("weights");
+fn weights(t: &mut impl Take) {
     let mut values = vec![
         0.0,
         5e-324,

@@ -1,0 +1,223 @@
+-- The text of bytes that hold numbers is the text of the numbers.
+use mathlib.Core.Path.{_≡_, refl, sym, ap, _∙_}
+use mathlib.Core.List.{List, [], _∷_, _++_, map, map-append, append-assoc}
+use Prim.Native.Nat.{ℕ, zero, suc, _+_, _*_, _/_, _%_, _^_, _≤_, _<_}
+use native.Mathlib.Nat.{suc-mul, mul-le-mul}
+use native.Mathlib.Omega.{arith}
+use borrow.Author.Tests.{eq-eqb, ne-eqb, le-ltb}
+use lib.ListN.{length, take, drop, getD, replicate, length-drop, length-replicate}
+use lib.Seq.{length-take-le, take-all, take-at, drop-at, drop-drop, take-suc, getD-drop}
+use lib.Ieee.{Float, nan}
+use Rattle.wire.specs.Wire.{bitsOf, lowBytes, bytesOf, numberOf, loadOf, placed, reals, realBytes}
+use Rattle.wire.proofs.Numbers.{length-bytesOf}
+use Rattle.text.specs.Listing.{hexIn, hexDigits, bitsText, bitsTexts, rowLine, rowLines, summaryLine, listing, loads, rowsOf}
+use Rattle.criterion.specs.declared.Summary.{Summary}
+use Rattle.plan.specs.declared.GwrOptions.{GwrOptions}
+use Rattle.plan.specs.declared.Check.{Check}
+use Rattle.plan.specs.declared.Check.the-variants as check
+use Rattle.plan.specs.Checks.{judge}
+use Rattle.gwr.specs.declared.FitAnswer.{FitAnswer}
+use Rattle.gwr.specs.declared.FitAnswer.the-variants.{Fitted, Failed, Rejected}
+use Rattle.calls.specs.declared.Choice.{Choice}
+use Rattle.calls.specs.declared.Choice.the-variants as choice
+use Rattle.calls.specs.Options.{optionsOf}
+use Rattle.calls.specs.Calls.{After, partTests, byteTests, roomOf, summaryBytes, written, answerBytes, fitted, fitParts, checked, chosenBytes, fitBytes}
+use Rattle.calls.proofs.Counts.{refusal-ranged, summary-solves}
+use Rattle.listing.specs.declared.Head.{Head}
+use Rattle.listing.specs.Jobs.{placesEnd, predictorsEnd, responsesEnd, answerText, fitOfParts, wholeText}
+use Rattle.listing.specs.Numbers.{coordinatesIn, predictorsIn, responsesIn, fitIn, rowsIn, fitText}
+use Rattle.listing.proofs.Texts.{refused-text, listing-text}
+use Rattle.listing.proofs.Reading.{load-front}
+
+-- ---- a number from its 8 bytes: its 16 lowest hexadecimal digits are there
+
+abbrev low : ℕ → ℕ
+low v = numberOf (bytesOf v)
+
+abbrev twice : ℕ → ℕ
+twice zero = zero
+twice (suc k) = suc (suc (twice k))
+
+hex-pairs : (k v : ℕ) → hexIn (twice k) (numberOf (lowBytes k v)) ≡ hexIn (twice k) v
+unfolding hexIn lowBytes numberOf
+hex-pairs zero v = refl
+hex-pairs (suc k) v =
+    let m = numberOf (lowBytes k (v / 256)) in
+    let w = v % 256 + 256 * m in
+    let a : w / 16 / 16 ≡ m = omega arith in
+    let b : w / 16 % 16 ≡ v / 16 % 16 = omega arith in
+    let c : w % 16 ≡ v % 16 = omega arith in
+    let d : v / 16 / 16 ≡ v / 256 = omega arith in
+    rw (a, b, c, d, hex-pairs k (v / 256))
+
+bits-low : (v : ℕ) → bitsText (low v) ≡ bitsText v
+unfolding bitsText hexDigits bytesOf
+bits-low v = ap (λ (l : List ℕ). 32 ∷ l) (hex-pairs 8 v)
+
+-- ---- numbers one after the other
+
+load-here : (v : ℕ) (rest : List ℕ) → loadOf (bytesOf v ++ rest) 0 ≡ low v
+unfolding loadOf
+load-here v rest = ap numberOf (take-at (bytesOf v) rest 8 (length-bytesOf v))
+
+load-behind : (v : ℕ) (rest : List ℕ) (k : ℕ) → loadOf (bytesOf v ++ rest) (8 + k) ≡ loadOf rest k
+unfolding loadOf
+load-behind v rest k =
+    ap (λ (l : List ℕ). numberOf (take 8 l)) (sym (drop-drop k 8 (bytesOf v ++ rest)) ∙ ap (drop k) (drop-at (bytesOf v) rest 8 (length-bytesOf v)))
+
+abbrev lowBits : Float → ℕ
+lowBits x = low (bitsOf x)
+
+load-real : (xs : List Float) (rest : List ℕ) (k : ℕ) → k < length xs → loadOf (realBytes xs ++ rest) (8 * k) ≡ lowBits (getD xs k nan)
+unfolding realBytes
+load-real [] rest k h = absurd (omega arith)
+load-real (x ∷ xs) rest zero h = ap (λ (l : List ℕ). loadOf l 0) (append-assoc (bytesOf (bitsOf x)) (realBytes xs) rest) ∙ load-here (bitsOf x) (realBytes xs ++ rest)
+load-real (x ∷ xs) rest (suc k) h =
+    let e : 8 * suc k ≡ 8 + 8 * k = omega arith in
+    ap (λ (l : List ℕ). loadOf l (8 * suc k)) (append-assoc (bytesOf (bitsOf x)) (realBytes xs) rest)
+    ∙ ap (loadOf (bytesOf (bitsOf x) ++ (realBytes xs ++ rest))) e
+    ∙ load-behind (bitsOf x) (realBytes xs ++ rest) (8 * k)
+    ∙ load-real xs rest k (omega arith)
+
+module _ (xs : List Float) (rest : List ℕ) where
+  abbrev s : List ℕ
+  s = realBytes xs ++ rest
+
+  loads-real : (first m : ℕ) → first + m ≤ length xs → loads s first m ≡ map lowBits (take m (drop first xs))
+  unfolding loads
+  loads-real first zero h = refl
+  loads-real first (suc m) h =
+      let d = drop first xs in
+      let one : lowBits (getD d m nan) ≡ loadOf s (8 * (first + m)) = ap lowBits (getD-drop first xs m nan) ∙ sym (load-real xs rest (first + m) (omega arith)) in
+      let more : map lowBits (take (suc m) d) ≡ map lowBits (take m d) ++ (lowBits (getD d m nan) ∷ []) =
+      ap (map lowBits) (take-suc d m nan (omega (arith, length-drop first xs))) ∙ map-append lowBits (take m d) (getD d m nan ∷ []) in
+      ap (λ (l : List ℕ). l ++ (loadOf s (8 * (first + m)) ∷ [])) (loads-real first m (omega arith))
+      ∙ ap (λ (v : ℕ). map lowBits (take m d) ++ (v ∷ [])) (sym one)
+      ∙ sym more
+
+  rows-real : (width n : ℕ) → n * width ≤ length xs → rowsOf s width n ≡ map (map lowBits) (rowsIn xs width n)
+  unfolding rowsOf rowsIn
+  rows-real width zero h = refl
+  rows-real width (suc n) h =
+      let e = suc-mul n width in
+      ap (λ (l : List (List ℕ)). l ++ (loads s (n * width) width ∷ [])) (rows-real width n (omega arith))
+      ∙ ap (λ (r : List ℕ). map (map lowBits) (rowsIn xs width n) ++ (r ∷ [])) (loads-real (n * width) width (omega arith))
+      ∙ sym (map-append (map lowBits) (rowsIn xs width n) (take width (drop (n * width) xs) ∷ []))
+
+-- ---- their text
+
+texts-low : (row : List Float) → bitsTexts (map lowBits row) ≡ bitsTexts (map bitsOf row)
+unfolding bitsTexts
+texts-low [] = refl
+texts-low (x ∷ row) = rw (bits-low (bitsOf x), texts-low row)
+
+rows-low : (i : ℕ) (rows : List (List Float)) → rowLines i (map (map lowBits) rows) ≡ rowLines i (map (map bitsOf) rows)
+unfolding rowLines rowLine
+rows-low i [] = refl
+rows-low i (row ∷ rows) = rw (texts-low row, rows-low (i + 1) rows)
+
+listing-same : (a a' b b' s s' : ℕ) (rows rows' : List (List ℕ)) → bitsText a ≡ bitsText a' → bitsText b ≡ bitsText b' → s ≡ s' → rowLines 0 rows ≡ rowLines 0 rows'
+    → listing a b s rows ≡ listing a' b' s' rows'
+unfolding listing summaryLine
+listing-same a a' b b' s s' rows rows' ea eb es er = rw (ea, eb, es, er)
+
+-- ---- a fit's answer
+
+-- the bytes of the summary
+module _ (v : Summary) (summary : List ℕ) where
+  abbrev behind : List ℕ
+  behind = drop (0 + length (summaryBytes v)) summary
+
+  bandwidth-low : loadOf (placed summary 0 (summaryBytes v)) 0 ≡ lowBits (v .bandwidth)
+  unfolding placed summaryBytes
+  bandwidth-low = ap (λ (l : List ℕ). loadOf l 0) (append-assoc (bytesOf (bitsOf (v .bandwidth))) _ behind) ∙ load-here (bitsOf (v .bandwidth)) _
+
+  aicc-low : loadOf (placed summary 0 (summaryBytes v)) 8 ≡ lowBits (v .aicc)
+  unfolding placed summaryBytes
+  aicc-low =
+      let two = bytesOf (bitsOf (v .aicc)) in
+      let three = bytesOf (v .solves) in
+      ap (λ (l : List ℕ). loadOf l 8) (append-assoc (bytesOf (bitsOf (v .bandwidth))) (two ++ three) behind)
+      ∙ load-behind (bitsOf (v .bandwidth)) ((two ++ three) ++ behind) 0
+      ∙ ap (λ (l : List ℕ). loadOf l 0) (append-assoc two three behind)
+      ∙ load-here (bitsOf (v .aicc)) (three ++ behind)
+
+rows-text : (w : List Float) (out : List ℕ) (width n : ℕ) → n * width ≤ length w → rowLines 0 (rowsOf (placed out 0 (realBytes w)) width n) ≡ rowLines 0 (map (map bitsOf) (rowsIn w width n))
+unfolding placed
+rows-text w out width n h = ap (rowLines 0) (rows-real w (drop (0 + length (realBytes w)) out) width n h) ∙ rows-low 0 (rowsIn w width n)
+
+-- a fit that wrote all n rows, and whose solve count has 8 bytes
+abbrev pub Printable : FitAnswer → ℕ → ℕ → Type 0
+Printable (Fitted v) rows n = (rows ≡ n) × (v .solves < 2 ^ 64)
+Printable (Failed r v) rows n = Unit {0}
+Printable (Rejected r) rows n = Unit {0}
+
+module _ (n width : ℕ) (w : List Float) (out summary : List ℕ) (long : length w ≡ n * width) where
+  pub answer-text : (a : FitAnswer) (rows : ℕ) → Printable a rows n → answerText (answerBytes a (take (rows * width) w) out summary) n width ≡ fitText a (rowsIn w width n)
+  unfolding written
+  answer-text (Fitted v) rows h =
+      let e : take (rows * width) w ≡ w = ap (λ (k : ℕ). take (k * width) w) (h .0) ∙ take-all (n * width) w (omega arith) in
+      sym (listing-text (answerBytes (Fitted v) (take (rows * width) w) out summary) n width (omega arith))
+      ∙ listing-same _ _ _ _ _ _ _ _ (ap bitsText (bandwidth-low v summary) ∙ bits-low (bitsOf (v .bandwidth))) (ap bitsText (aicc-low v summary) ∙ bits-low (bitsOf (v .aicc))) (summary-solves summary v (h .1))
+      (ap (λ (l : List Float). rowLines 0 (rowsOf (placed out 0 (realBytes l)) width n)) e ∙ rows-text w out width n (omega arith))
+  answer-text (Failed r v) rows h = sym (refused-text (answerBytes (Failed r v) (take (rows * width) w) out summary) n width (refusal-ranged r .some))
+  answer-text (Rejected r) rows h = sym (refused-text (answerBytes (Rejected r) (take (rows * width) w) out summary) n width (refusal-ranged r .some))
+
+-- ---- the fit of whole parts
+
+reals-front : (s : List ℕ) (k m : ℕ) → 8 * m ≤ k → reals (take k s) m ≡ reals s m
+unfolding reals
+reals-front s k zero h = refl
+reals-front s k (suc m) h = rw (reals-front s k m (omega arith), load-front s (8 * m) k (omega arith))
+
+lengths-pass : (a x y n p : ℕ) → a ≡ 16 * n → x ≡ 8 * (n * p) → y ≡ 8 * n → 1 ≤ n → n ≤ 512 → p ≤ 7 → judge (byteTests a x y p) ≡ check.Pass
+unfolding judge byteTests partTests
+lengths-pass a x y n p ea ex ey some few narrow =
+    let e : a / 16 ≡ n = omega arith in
+    let z : a ≡ 0 → ⊥ = λ q. omega arith in
+    rw (e, ne-eqb a 0 z, le-ltb 0 (a % 16) (omega arith), le-ltb 512 n few, le-ltb 7 p narrow, eq-eqb x (8 * (n * p)) ex, eq-eqb y (8 * n) ey)
+
+room-is : (n p out summary : ℕ) → 8 * (n * (p + 4)) ≤ out → 24 ≤ summary → roomOf n p out summary ≡ n * (p + 4)
+unfolding roomOf
+room-is n p out summary h k = rw (le-ltb summary 24 k, le-ltb out (8 * (n * (p + 4))) h)
+
+module _ (h : Head) (parts : List ℕ) (o : GwrOptions) (known : optionsOf (h .kernel) (h .kind) (h .bandwidth) ≡ choice.Known o) (some : 1 ≤ h .n) (few : h .n ≤ 512) (narrow : h .p ≤ 7) (whole : responsesEnd (h .n) (h .p) ≤ length parts) where
+  abbrev A : List ℕ
+  A = take (placesEnd (h .n)) parts
+
+  abbrev B : List ℕ
+  B = take (8 * (h .n * h .p)) (drop (placesEnd (h .n)) parts)
+
+  abbrev D : List ℕ
+  D = take (8 * h .n) (drop (predictorsEnd (h .n) (h .p)) parts)
+
+  abbrev n : ℕ
+  n = h .n
+
+  abbrev p : ℕ
+  p = h .p
+
+  parts-fit : (out summary : List ℕ) → 8 * (n * (p + 4)) ≤ length out → 24 ≤ length summary → fitOfParts h parts out summary ≡ fitted p (fitIn h parts o) out summary
+  unfolding fitOfParts fitBytes fitParts
+  parts-fit out summary room space =
+      let la : length A ≡ 16 * n = length-take-le (16 * n) parts (omega arith) in
+      let lb : length B ≡ 8 * (n * p) = length-take-le (8 * (n * p)) (drop (16 * n) parts) (omega (arith, length-drop (16 * n) parts)) in
+      let ld : length D ≡ 8 * n = length-take-le (8 * n) (drop (predictorsEnd n p) parts) (omega (arith, length-drop (predictorsEnd n p) parts)) in
+      let m : length A / 16 ≡ n = omega arith in
+      let r : roomOf n p (length out) (length summary) ≡ n * (p + 4) = room-is n p (length out) (length summary) room space in
+      let c : reals A (2 * n) ≡ coordinatesIn h parts = reals-front parts (16 * n) (2 * n) (omega arith) in
+      let x : reals B (n * p) ≡ predictorsIn h parts = reals-front (drop (16 * n) parts) (8 * (n * p)) (n * p) (omega arith) in
+      let y : reals D n ≡ responsesIn h parts = reals-front (drop (predictorsEnd n p) parts) (8 * n) n (omega arith) in
+      ap (λ (q : Choice). chosenBytes q A B D p out summary) known
+      ∙ ap (λ (k : Check). checked k (fitParts A B D (length A / 16) p o out summary) out summary) (lengths-pass (length A) (length B) (length D) n p la lb ld some few narrow)
+      ∙ ap (λ (k : ℕ). fitParts A B D k p o out summary) m
+      ∙ rw (r, c, x, y)
+
+  -- the text of whole parts
+  pub whole-numbers : length (fitIn h parts o .1) ≡ n * (p + 4) → Printable (fitIn h parts o .0 .answer) (fitIn h parts o .0 .rows) n
+      → wholeText h parts (replicate 45056 0) (replicate 24 0) ≡ fitText (fitIn h parts o .0 .answer) (rowsIn (fitIn h parts o .1) (p + 4) n)
+  unfolding wholeText
+  whole-numbers long ready =
+      let wide : p + 4 ≤ 11 = omega arith in
+      ap (λ (a : After). answerText a n (p + 4)) (parts-fit (replicate 45056 0) (replicate 24 0) (omega (arith, mul-le-mul few wide, length-replicate {A = ℕ} 45056 0)) (omega (arith, length-replicate {A = ℕ} 24 0)))
+      ∙ answer-text n (p + 4) (fitIn h parts o .1) (replicate 45056 0) (replicate 24 0) long (fitIn h parts o .0 .answer) (fitIn h parts o .0 .rows) ready

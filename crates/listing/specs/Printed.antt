@@ -1,0 +1,30 @@
+-- All that `gwrprint` prints, as a function of all of its standard input. Definitions only.
+use Prim.Native.Nat.{ℕ}
+use mathlib.Core.List.{List, _++_}
+use lib.ListN.{take, drop}
+use Rattle.text.specs.Listing.{refusedLine}
+use Rattle.refusal.specs.Numbers.{refusalNumber}
+use Rattle.listing.specs.declared.Header.{Header}
+use Rattle.listing.specs.declared.Header.the-variants.{Whole, Refused}
+use Rattle.listing.specs.Headers.{headerOf, partsLen}
+use Rattle.listing.specs.Jobs.{jobText}
+
+-- 01: a refusal prints `fit` and its number only
+abbrev pub textOf : Header → List ℕ → List ℕ
+textOf (Whole h) parts = jobText h parts
+textOf (Refused r) parts = refusedLine (refusalNumber r)
+
+-- 01: `gwrprint` reads a header of five numbers, 8 bytes each, then the parts; bytes left over are ignored
+unfoldable pub printed : List ℕ → List ℕ
+printed input = textOf (headerOf input) (drop 40 input)
+
+-- ---- what the program reads
+
+-- how many bytes it asks for behind a header; 01: 18, n of 0 or over 512 and p over 7 are refused before reading on
+abbrev pub asked : Header → ℕ
+asked (Whole h) = partsLen (h .n) (h .p)
+asked (Refused r) = 0
+
+-- 40 bytes, then as many as these ask for; proofs/Reading proves that what is printed of them is what is printed of the whole input
+abbrev pub readOf : List ℕ → List ℕ
+readOf input = take 40 input ++ take (asked (headerOf (take 40 input))) (drop 40 input)
