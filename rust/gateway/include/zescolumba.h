@@ -1,4 +1,4 @@
-/* The byte calls of the proved regression: link target/staticlib/libgateway.a, which `rt staticlib gateway` writes.
+/* The byte calls of the proved regression: link target/staticlib/libgateway.a, which scripts/prove.sh gateway makes.
  *
  * Every number crosses as 8 bytes, little-endian: an f64 by its bits, a count as it is. Nothing is kept between calls, no memory
  * is taken, and calls from several threads do not meet. Slices may be empty; a slice's pointer is then not read.
