@@ -10,8 +10,8 @@ use lib.Ieee.{Float}
 use Rattle.real.specs.Fold.{turns, range}
 use Rattle.refusal.specs.declared.Refusal.{Refusal}
 use Rattle.kernel.specs.declared.GwrKernel.{GwrKernel}
-use Rattle.neighbours.specs.declared.GwrBandwidth.{GwrBandwidth}
-use Rattle.normal.specs.Data.{Data}
+use Rattle.setup.specs.declared.GwrBandwidth.{GwrBandwidth}
+use Rattle.setup.specs.Data.{Data}
 use Rattle.local.specs.declared.Outcome.{Outcome}
 use Rattle.local.specs.declared.Outcome.the-variants as outcome
 use Rattle.local.specs.Solve.{solveLocation}
@@ -19,7 +19,7 @@ use Rattle.criterion.specs.declared.Criterion.{Criterion}
 use Rattle.criterion.specs.declared.Criterion.the-variants as criterion
 use Rattle.golden.specs.declared.Bracket.{Bracket}
 use Rattle.golden.specs.Golden.{startOf, aimOf}
-use Rattle.plan.specs.declared.GwrOptions.{GwrOptions}
+use Rattle.setup.specs.declared.GwrOptions.{GwrOptions}
 use Rattle.plan.specs.declared.Plan.{Plan}
 use Rattle.plan.specs.declared.Plan.the-variants as plan
 use Rattle.plan.specs.Plan.{acceptOf, bandwidthAt}

@@ -13,10 +13,10 @@ use Rattle.refusal.specs.Numbers.{refusalNumber}
 use Rattle.refusal.specs.declared.Refusal.{Refusal}
 use Rattle.refusal.specs.declared.Refusal.the-variants.{NoCoordinates, OddCoordinates, TooManyObservations, TooManyPredictors, PredictorLength, ResponseLength, TooFewObservations, ResponseNotFinite, CoordinateNotFinite, PredictorNotFinite, UnusableDistance, NoDistanceRange, OutputTooShort, Singular, InverseNotFinite, CoefficientNotFinite, DeviationNotFinite, UnknownNumber, UnfitRecord, AlreadyEnded, LengthsDiffer}
 use Rattle.criterion.specs.declared.Summary.{Summary}
-use Rattle.plan.specs.declared.GwrOptions.{GwrOptions}
-use Rattle.plan.specs.declared.Check.{Check}
-use Rattle.plan.specs.declared.Check.the-variants as check
-use Rattle.plan.specs.Checks.{judge}
+use Rattle.setup.specs.declared.GwrOptions.{GwrOptions}
+use Rattle.checks.specs.declared.Check.{Check}
+use Rattle.checks.specs.declared.Check.the-variants as check
+use Rattle.checks.specs.Judge.{judge}
 use Rattle.gwr.specs.declared.FitAnswer.{FitAnswer}
 use Rattle.gwr.specs.declared.FitAnswer.the-variants.{Fitted, Failed, Rejected}
 use Rattle.gwr.specs.declared.Fit.{Fit}

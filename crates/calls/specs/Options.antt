@@ -5,9 +5,9 @@ use lib.Dec.{eqb}
 use Rattle.wire.specs.Wire.{realOf}
 use Rattle.kernel.specs.declared.GwrKernel.{GwrKernel}
 use Rattle.kernel.specs.declared.GwrKernel.the-variants.{Gaussian, Bisquare, Exponential}
-use Rattle.neighbours.specs.declared.GwrBandwidth.{GwrBandwidth}
-use Rattle.neighbours.specs.declared.GwrBandwidth.the-variants.{Fixed, AdaptiveKnn}
-use Rattle.plan.specs.declared.GwrOptions.{GwrOptions}
+use Rattle.setup.specs.declared.GwrBandwidth.{GwrBandwidth}
+use Rattle.setup.specs.declared.GwrBandwidth.the-variants.{Fixed, AdaptiveKnn}
+use Rattle.setup.specs.declared.GwrOptions.{GwrOptions}
 use Rattle.calls.specs.declared.KernelChoice.{KernelChoice}
 use Rattle.calls.specs.declared.KernelChoice.the-variants as kernel
 use Rattle.calls.specs.declared.Choice.{Choice}

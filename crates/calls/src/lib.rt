@@ -2,19 +2,19 @@
 ghost use mathlib.Core.Path.{_≡_};
 ghost use Prim.Native.Nat.{_+_, _*_, _≤_, _<_};
 ghost use lib.ListN.{length, take};
-ghost use Rattle.plan.specs.Checks.{judge};
+ghost use Rattle.checks.specs.Judge.{judge};
 ghost use Rattle.wire.specs.Wire.{realBytes, placed};
 ghost use Rattle.calls.specs.Options.{kernelOf, kindOf, chosenOf, optionsOf};
 ghost use Rattle.calls.specs.Calls.{partTests, byteTests, roomOf, summaryBytes, answerBytes, fitted, fitParts, fitBytes, weightPlaced, weightRoom, weightBytes, Roomy, Offered};
 ghost use Rattle.gwr.specs.Fit.{fitOf};
+use checks::Check;
 use criterion::Summary;
 use gwr::FitAnswer;
 use kernel::GwrKernel;
 use kernel::Weighed;
-use neighbours::GwrBandwidth;
-use plan::Check;
-use plan::GwrOptions;
 use refusal::Refusal;
+use setup::GwrBandwidth;
+use setup::GwrOptions;
 
 // Options from their numbers, of which 18 refuses the unknown.
 pub enum Choice {

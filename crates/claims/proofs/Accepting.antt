@@ -15,15 +15,16 @@ use Rattle.real.proofs.Fold.{kept}
 use Rattle.real.proofs.SignedOrder.{nlt→le}
 use Rattle.refusal.specs.declared.Refusal.{Refusal}
 use Rattle.refusal.specs.declared.Refusal.the-variants.{NoCoordinates, OddCoordinates, TooManyObservations, TooManyPredictors, PredictorLength, ResponseLength, TooFewObservations, ResponseNotFinite, CoordinateNotFinite, PredictorNotFinite, UnusableDistance, NoDistanceRange, OutputTooShort}
-use Rattle.neighbours.specs.declared.GwrBandwidth.{GwrBandwidth}
-use Rattle.neighbours.specs.declared.GwrBandwidth.the-variants.{Fixed, AdaptiveKnn}
+use Rattle.setup.specs.declared.GwrBandwidth.{GwrBandwidth}
+use Rattle.setup.specs.declared.GwrBandwidth.the-variants.{Fixed, AdaptiveKnn}
 use Rattle.neighbours.specs.Count.{resolvedCount}
-use Rattle.plan.specs.declared.Check.{Check}
-use Rattle.plan.specs.declared.Check.the-variants as check
-use Rattle.plan.specs.declared.GwrOptions.{GwrOptions}
+use Rattle.checks.specs.declared.Check.{Check}
+use Rattle.checks.specs.declared.Check.the-variants as check
+use Rattle.setup.specs.declared.GwrOptions.{GwrOptions}
 use Rattle.plan.specs.declared.Plan.{Plan}
 use Rattle.plan.specs.declared.Plan.the-variants as plan
-use Rattle.plan.specs.Checks.{judge, lengthTests, shapeTests, finiteTests, valueTests, roomTests, inputTests}
+use Rattle.checks.specs.Judge.{judge}
+use Rattle.plan.specs.Checks.{lengthTests, shapeTests, finiteTests, valueTests, roomTests, inputTests}
 use Rattle.plan.specs.Plan.{fartherPair, fartherFrom, greatestDistance, leastDistance, usableDistance, leastCount, greatestCount, distancePlan, rangePlan, countPlan, givenPlan, searchPlan, planOf, after, acceptOf}
 use Rattle.plan.proofs.Acceptance.{after-append}
 use Rattle.plan.proofs.Ranges.{Above, greater-above}

@@ -26,7 +26,7 @@ use Rattle.golden.proofs.Round.{G-is, G2-is}
 use Rattle.golden.proofs.Points.{near-golden, start-section, round-section, residues, golden-section}
 use Rattle.golden.proofs.Kiefer.{round-kiefer, searched, round-narrows, bottom-kept, bottom-stays}
 use Rattle.local.proofs.NormalEquations.{normal-equations}
-use Rattle.plan.specs.declared.GwrOptions.{GwrOptions}
+use Rattle.setup.specs.declared.GwrOptions.{GwrOptions}
 use Rattle.plan.specs.declared.Plan.{Plan}
 use Rattle.gwr.specs.Fit.{planned, jobData, fitOf}
 use Rattle.gwr.proofs.Literal.{fit-literal}

@@ -8,7 +8,7 @@ use borrow.Author.Tests.{le-leb, lt-ltb}
 use lib.Dec.{eqb}
 use lib.ListN.{length}
 use lib.Ieee.{Float}
-use Rattle.normal.specs.Data.{Data}
+use Rattle.setup.specs.Data.{Data}
 use Rattle.local.specs.declared.Outcome.{Outcome}
 use Rattle.local.specs.declared.Outcome.the-variants as outcome
 use Rattle.local.proofs.Rows.{put-long}
@@ -18,7 +18,7 @@ use Rattle.criterion.specs.Aicc.{scoreOf}
 use Rattle.golden.specs.Golden.{narrowOf, aimOf}
 use Rattle.job.specs.declared.Stage.{Stage}
 use Rattle.job.specs.declared.Stage.the-variants.{First, Second, Round, Final, Ended}
-use Rattle.job.specs.declared.Setup.{Setup}
+use Rattle.setup.specs.declared.Setup.{Setup}
 use Rattle.job.specs.declared.Job.{Job}
 use Rattle.job.specs.Step.{nextSweep, lastRound, closeAt, closeOf, addedJob, movedJob, advanceOf, countedJob, afterSolve, solveOf, stepJob, writeAt, stepOut, stepOf, endedAt, overOf}
 use Rattle.job.specs.Run.{steps}

@@ -10,9 +10,10 @@ use lib.Dec.{T, eqb, ltb}
 use lib.Ieee.{Float}
 use lib.Ieee.Scale.{finite}
 use Rattle.refusal.specs.declared.Refusal.{Refusal}
-use Rattle.plan.specs.declared.Check.{Check}
-use Rattle.plan.specs.declared.Check.the-variants as check
-use Rattle.plan.specs.Checks.{judge, allFinite}
+use Rattle.checks.specs.declared.Check.{Check}
+use Rattle.checks.specs.declared.Check.the-variants as check
+use Rattle.checks.specs.Judge.{judge}
+use Rattle.plan.specs.Checks.{allFinite}
 use Rattle.claims.specs.Conditions.{Condition, when, None, First-of, Decides, SomeNotFinite}
 
 -- ---- a list of tests, and the conditions that these tell of

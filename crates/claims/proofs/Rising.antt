@@ -5,7 +5,7 @@ use Prim.Native.Nat.{ℕ, zero, suc, _+_, _*_, _≤_}
 use native.Mathlib.Nat.{mul-le-mul}
 use native.Mathlib.Omega.{arith}
 use lib.Dec.{eqb}
-use Rattle.normal.specs.Data.{Data}
+use Rattle.setup.specs.Data.{Data}
 use Rattle.local.specs.declared.Outcome.{Outcome}
 use Rattle.local.specs.declared.Outcome.the-variants as outcome
 use Rattle.criterion.specs.declared.Criterion.{Criterion}
@@ -13,7 +13,7 @@ use Rattle.criterion.specs.Aicc.{scoreOf}
 use Rattle.golden.specs.Golden.{narrowOf}
 use Rattle.job.specs.declared.Stage.{Stage}
 use Rattle.job.specs.declared.Stage.the-variants.{First, Second, Round, Final, Ended}
-use Rattle.job.specs.declared.Setup.{Setup}
+use Rattle.setup.specs.declared.Setup.{Setup}
 use Rattle.job.specs.declared.Job.{Job}
 use Rattle.job.specs.Step.{lastRound, closeAt, closeOf, addedJob, advanceOf, countedJob, afterSolve, solveOf, stepJob, stepOf, endedAt, overOf}
 use Rattle.job.specs.Run.{steps}

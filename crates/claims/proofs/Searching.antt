@@ -11,7 +11,7 @@ use lib.ListN.{length}
 use lib.Ieee.{Float, binary64, le, ofBits}
 use Rattle.real.specs.Reals.{magnitude}
 use Rattle.real.specs.Fold.{turns, range}
-use Rattle.neighbours.specs.declared.GwrBandwidth.{GwrBandwidth}
+use Rattle.setup.specs.declared.GwrBandwidth.{GwrBandwidth}
 use Rattle.golden.specs.declared.Bracket.{Bracket}
 use Rattle.golden.specs.Golden.{startOf, firstOf, secondOf, aimOf, narrowOf, tightOf}
 use Rattle.plan.specs.Plan.{bandwidthAt}
@@ -20,7 +20,7 @@ use Rattle.gwr.specs.declared.Trial.{Trial}
 use Rattle.gwr.specs.Search.{trialOf, roundOf, openedOf, goldenOf, loopBody}
 use Rattle.gwr.proofs.Literal.{variablesOf, body-is, left, front, opened-is}
 use Rattle.job.specs.declared.Stage.the-variants.{First, Second, Round, Final}
-use Rattle.job.specs.declared.Setup.{Setup}
+use Rattle.setup.specs.declared.Setup.{Setup}
 use Rattle.job.specs.declared.Job.{Job}
 use Rattle.job.specs.Step.{lastRound}
 use Rattle.claims.specs.Whole.{Scored, triedIn, loopTrials, goldenTrials}

@@ -13,8 +13,8 @@ use Rattle.real.specs.Fold.{turns, range}
 use Rattle.real.specs.Reals.{zero64}
 use Rattle.real.proofs.SignedOrder.{here-or-on}
 use Rattle.kernel.specs.declared.GwrKernel.{GwrKernel}
-use Rattle.neighbours.specs.declared.GwrBandwidth.{GwrBandwidth}
-use Rattle.normal.specs.Data.{Data}
+use Rattle.setup.specs.declared.GwrBandwidth.{GwrBandwidth}
+use Rattle.setup.specs.Data.{Data}
 use Rattle.local.specs.declared.Values.{Values}
 use Rattle.local.specs.declared.Outcome.{Outcome}
 use Rattle.local.specs.declared.Outcome.the-variants as outcome
@@ -26,7 +26,7 @@ use Rattle.local.proofs.Lengths.{beta-eight}
 use Rattle.criterion.specs.declared.Criterion.{Criterion}
 use Rattle.criterion.specs.declared.Criterion.the-variants as criterion
 use Rattle.criterion.specs.Aicc.{realOf, deviation, correctedAic}
-use Rattle.plan.specs.declared.GwrOptions.{GwrOptions}
+use Rattle.setup.specs.declared.GwrOptions.{GwrOptions}
 use Rattle.gwr.specs.declared.Course.{Course}
 use Rattle.gwr.specs.declared.Course.the-variants.{Going, Stopped}
 use Rattle.gwr.specs.declared.Sweep.{Sweep}

@@ -16,9 +16,9 @@ use Rattle.real.proofs.SignedOrder.{here-or-on}
 use Rattle.refusal.specs.declared.Refusal.{Refusal}
 use Rattle.refusal.specs.declared.Refusal.the-variants.{Singular, InverseNotFinite, CoefficientNotFinite}
 use Rattle.kernel.specs.declared.GwrKernel.{GwrKernel}
-use Rattle.neighbours.specs.declared.GwrBandwidth.{GwrBandwidth}
+use Rattle.setup.specs.declared.GwrBandwidth.{GwrBandwidth}
 use Rattle.neighbours.specs.Bandwidth.{bandwidthOf}
-use Rattle.normal.specs.Data.{Data}
+use Rattle.setup.specs.Data.{Data}
 use Rattle.normal.specs.Weights.{weightsAt}
 use Rattle.local.specs.declared.Estimate.the-variants as estimate
 use Rattle.local.specs.declared.Values.{Values}
@@ -28,9 +28,9 @@ use Rattle.local.specs.Inner.{Row, Matrix, inverseCell, allStep, allOf}
 use Rattle.local.specs.Estimate.{inverseRowFinite, inverseFinite, coefficientsFinite, coefficientsOf, refusedWith, fromInverse, equationsOf, eliminatedOf}
 use Rattle.local.specs.Estimate as local
 use Rattle.local.specs.Solve.{outcomeOf, solvedUnder, solveLocal, solveLocation}
-use Rattle.plan.specs.declared.Check.{Check}
-use Rattle.plan.specs.declared.Check.the-variants as check
-use Rattle.plan.specs.Checks.{judge}
+use Rattle.checks.specs.declared.Check.{Check}
+use Rattle.checks.specs.declared.Check.the-variants as check
+use Rattle.checks.specs.Judge.{judge}
 use Rattle.job.proofs.Records.{and-true}
 use Rattle.claims.specs.Conditions.{Decides, Some}
 use Rattle.claims.specs.DemandOne.{solveConditions, Found, Met}

@@ -19,7 +19,7 @@ use Rattle.kernel.proofs.RootOrder.{root-fits}
 use Rattle.kernel.proofs.Reaches.{squares-fits, distance-is}
 use Rattle.golden.specs.Kiefer.{Span, Searched}
 use Rattle.golden.proofs.Kiefer.{search-span, searched}
-use Rattle.plan.specs.declared.GwrOptions.{GwrOptions}
+use Rattle.setup.specs.declared.GwrOptions.{GwrOptions}
 use Rattle.plan.specs.declared.Plan.the-variants as plan
 use Rattle.plan.specs.Plan.{fartherPair, fartherFrom, greatestDistance, acceptOf}
 use Rattle.plan.proofs.Ranges.{sought-ranged}

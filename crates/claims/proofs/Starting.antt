@@ -8,22 +8,23 @@ use borrow.Author.Tests.{eq-eqb, le-leb, le-ltb}
 use lib.Dec.{leb}
 use lib.ListN.{length}
 use lib.Ieee.{Float, le}
-use Rattle.neighbours.specs.declared.GwrBandwidth.{GwrBandwidth}
-use Rattle.neighbours.specs.declared.GwrBandwidth.the-variants.{Fixed, AdaptiveKnn}
-use Rattle.neighbours.specs.Bandwidth.{Usable}
+use Rattle.setup.specs.declared.GwrBandwidth.{GwrBandwidth}
+use Rattle.setup.specs.declared.GwrBandwidth.the-variants.{Fixed, AdaptiveKnn}
+use Rattle.setup.specs.Bandwidth.{Usable}
 use Rattle.golden.specs.declared.Bracket.{Bracket}
-use Rattle.plan.specs.declared.Check.{Check}
-use Rattle.plan.specs.declared.Check.the-variants as check
+use Rattle.checks.specs.declared.Check.{Check}
+use Rattle.checks.specs.declared.Check.the-variants as check
 use Rattle.plan.specs.declared.Plan.{Plan}
 use Rattle.plan.specs.declared.Plan.the-variants as plan
-use Rattle.plan.specs.declared.GwrOptions.{GwrOptions}
-use Rattle.plan.specs.Checks.{judge, inputTests, finiteTests, valueTests, roomTests}
+use Rattle.setup.specs.declared.GwrOptions.{GwrOptions}
+use Rattle.checks.specs.Judge.{judge}
+use Rattle.plan.specs.Checks.{inputTests, finiteTests, valueTests, roomTests}
 use Rattle.plan.specs.Plan.{greatestDistance, leastDistance, usableDistance, leastCount, greatestCount, distancePlan, rangePlan, countPlan, bandwidthAt, givenPlan, searchPlan, planOf, after, acceptOf}
 use Rattle.plan.specs.Shape.{Accepted}
 use Rattle.plan.proofs.Acceptance.{settled-accepted, sought-accepted, bandwidth-usable}
 use Rattle.job.specs.declared.Stage.{Stage}
 use Rattle.job.specs.declared.Stage.the-variants.{First, Final}
-use Rattle.job.specs.declared.Setup.{Setup}
+use Rattle.setup.specs.declared.Setup.{Setup}
 use Rattle.job.specs.declared.Beginning.the-variants as beginning
 use Rattle.job.specs.Step.{freshJob}
 use Rattle.job.specs.Fitness.{kindsFit, trialsFit, Sized, Sound}

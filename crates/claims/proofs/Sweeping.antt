@@ -12,8 +12,8 @@ use Rattle.real.specs.Fold.{turns, range}
 use Rattle.real.specs.Reals.{zero64}
 use Rattle.refusal.specs.declared.Refusal.{Refusal}
 use Rattle.kernel.specs.declared.GwrKernel.{GwrKernel}
-use Rattle.neighbours.specs.declared.GwrBandwidth.{GwrBandwidth}
-use Rattle.normal.specs.Data.{Data}
+use Rattle.setup.specs.declared.GwrBandwidth.{GwrBandwidth}
+use Rattle.setup.specs.Data.{Data}
 use Rattle.local.specs.declared.Values.{Values}
 use Rattle.local.specs.declared.Outcome.{Outcome}
 use Rattle.local.specs.declared.Outcome.the-variants as outcome
@@ -26,7 +26,7 @@ use Rattle.gwr.specs.declared.Sweep.{Sweep}
 use Rattle.gwr.specs.Sweep.{newSweep, addOf, stopOf, afterOf, visitOf, sweepOf, endingOf, writeOf, visitFinal, sweepFinal}
 use Rattle.job.specs.declared.Stage.{Stage}
 use Rattle.job.specs.declared.Stage.the-variants.{First, Second, Round, Final, Ended}
-use Rattle.job.specs.declared.Setup.{Setup}
+use Rattle.setup.specs.declared.Setup.{Setup}
 use Rattle.job.specs.declared.Job.{Job}
 use Rattle.job.specs.Step.{lentData, closeAt, closeOf, advanceOf, afterSolve, stepJob, writeAt, stepOut, stepOf, endedAt, overOf}
 use Rattle.claims.proofs.Leading.{Leads, leads-none, leads-one, leads-then}

@@ -12,18 +12,19 @@ use lib.Ieee.{Float}
 use lib.Ieee.Scale.{finite}
 use Rattle.refusal.specs.declared.Refusal.{Refusal}
 use Rattle.refusal.specs.declared.Refusal.the-variants.{UnfitRecord, AlreadyEnded, LengthsDiffer}
-use Rattle.neighbours.specs.declared.GwrBandwidth.{GwrBandwidth}
-use Rattle.neighbours.specs.declared.GwrBandwidth.the-variants.{Fixed, AdaptiveKnn}
-use Rattle.normal.specs.Data.{Data}
+use Rattle.setup.specs.declared.GwrBandwidth.{GwrBandwidth}
+use Rattle.setup.specs.declared.GwrBandwidth.the-variants.{Fixed, AdaptiveKnn}
+use Rattle.setup.specs.Data.{Data}
 use Rattle.local.specs.declared.Outcome.{Outcome}
 use Rattle.local.specs.declared.Outcome.the-variants as outcome
 use Rattle.criterion.specs.declared.Criterion.{Criterion}
 use Rattle.criterion.specs.declared.Criterion.the-variants as criterion
 use Rattle.criterion.specs.Aicc.{realOf, deviation, correctedAic, scoreOf}
 use Rattle.golden.specs.Golden.{narrowOf}
-use Rattle.plan.specs.declared.Check.{Check}
-use Rattle.plan.specs.declared.Check.the-variants as check
-use Rattle.plan.specs.Checks.{judge, valueTests, finiteTests, roomTests}
+use Rattle.checks.specs.declared.Check.{Check}
+use Rattle.checks.specs.declared.Check.the-variants as check
+use Rattle.checks.specs.Judge.{judge}
+use Rattle.plan.specs.Checks.{valueTests, finiteTests, roomTests}
 use Rattle.plan.proofs.Acceptance.{pass-head}
 use Rattle.job.specs.declared.Stage.{Stage}
 use Rattle.job.specs.declared.Stage.the-variants.{First, Second, Round, Final, Ended}

@@ -23,7 +23,7 @@ use Rattle.kernel.specs.declared.GwrKernel.{GwrKernel}
 use Rattle.kernel.specs.declared.GwrKernel.the-variants.{Gaussian, Bisquare, Exponential}
 use Rattle.kernel.specs.Weight.{unusable, weightOf, FromZeroToOne}
 use Rattle.kernel.specs.Published as kernels
-use Rattle.neighbours.specs.declared.GwrBandwidth.{GwrBandwidth}
+use Rattle.setup.specs.declared.GwrBandwidth.{GwrBandwidth}
 use Rattle.neighbours.specs.Count.{ceilRoot, LeastRoot}
 use Rattle.neighbours.specs.Walk.{nearestOf}
 use Rattle.neighbours.specs.Smallest.{allOf, metOf, Ascending, kthNearest}
@@ -37,7 +37,7 @@ use Rattle.golden.specs.declared.Bracket.{Bracket}
 use Rattle.golden.specs.Golden.{invPhi, invPhi2, G, G2, startOf, goesLeft, narrowOf}
 use Rattle.golden.specs.Points as points
 use Rattle.golden.specs.Kiefer.{Span, Inside, Framed, Ordered, KieferRound, Narrowed, triedOf, playedOf, Searched, Valley, ScoredBy, Follows}
-use Rattle.plan.specs.declared.GwrOptions.{GwrOptions}
+use Rattle.setup.specs.declared.GwrOptions.{GwrOptions}
 use Rattle.plan.specs.declared.Plan.the-variants as plan
 use Rattle.plan.specs.Plan.{acceptOf, bandwidthAt}
 use Rattle.gwr.specs.Search.{trialOf, goldenSectionMin}

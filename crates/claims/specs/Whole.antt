@@ -6,9 +6,9 @@ use mathlib.Core.List.{List, [], _∷_, _++_}
 use lib.Dec.{T}
 use lib.Ieee.{Float, binary64, lt, le, ofBits}
 use Rattle.real.specs.Reals.{magnitude}
-use Rattle.neighbours.specs.declared.GwrBandwidth.{GwrBandwidth}
-use Rattle.normal.specs.Data.{Data}
-use Rattle.plan.specs.declared.GwrOptions.{GwrOptions}
+use Rattle.setup.specs.declared.GwrBandwidth.{GwrBandwidth}
+use Rattle.setup.specs.Data.{Data}
+use Rattle.setup.specs.declared.GwrOptions.{GwrOptions}
 use Rattle.plan.specs.declared.Plan.{Plan}
 use Rattle.plan.specs.declared.Plan.the-variants as plan
 use Rattle.plan.specs.Plan.{bandwidthAt}

@@ -11,9 +11,9 @@ use Rattle.elementary.specs.Exp.{expv}
 use Rattle.elementary.specs.Ln.{lnv}
 use Rattle.kernel.specs.declared.GwrKernel.the-variants.{Bisquare}
 use Rattle.kernel.specs.Weight.{weightOf}
-use Rattle.neighbours.specs.declared.GwrBandwidth.the-variants.{Fixed, AdaptiveKnn}
+use Rattle.setup.specs.declared.GwrBandwidth.the-variants.{Fixed, AdaptiveKnn}
 use Rattle.neighbours.specs.Count.{resolvedCount}
-use Rattle.plan.specs.declared.GwrOptions.{GwrOptions}
+use Rattle.setup.specs.declared.GwrOptions.{GwrOptions}
 use Rattle.gwr.specs.declared.FitAnswer.{FitAnswer}
 use Rattle.gwr.specs.declared.FitAnswer.the-variants as fit
 use Rattle.gwr.specs.Fit.{fitOf}

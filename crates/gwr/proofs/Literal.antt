@@ -14,21 +14,22 @@ use lib.Ieee.Scale.{finite}
 use Rattle.real.specs.Fold.{turns, range}
 use Rattle.real.specs.Reals.{lesser}
 use Rattle.real.proofs.SignedOrder.{natural, sgn-natural, in-fin, round-sgn, toUnsigned-mono, lt-not-le, nlt→le}
-use Rattle.normal.specs.Data.{Data}
+use Rattle.setup.specs.Data.{Data}
 use Rattle.criterion.specs.declared.Criterion.{Criterion}
 use Rattle.criterion.specs.declared.Criterion.the-variants as criterion
 use Rattle.criterion.specs.Aicc.{scoreOf}
 use Rattle.golden.specs.declared.Bracket.{Bracket}
 use Rattle.golden.specs.Golden.{startOf, secondOf, aimOf, narrowOf, tightOf}
 use Rattle.golden.proofs.Round.{G-is, G2-is, round-000, round-is}
-use Rattle.neighbours.specs.declared.GwrBandwidth.{GwrBandwidth}
-use Rattle.neighbours.specs.declared.GwrBandwidth.the-variants.{Fixed, AdaptiveKnn}
-use Rattle.plan.specs.declared.Check.{Check}
-use Rattle.plan.specs.declared.Check.the-variants as check
-use Rattle.plan.specs.declared.GwrOptions.{GwrOptions}
+use Rattle.setup.specs.declared.GwrBandwidth.{GwrBandwidth}
+use Rattle.setup.specs.declared.GwrBandwidth.the-variants.{Fixed, AdaptiveKnn}
+use Rattle.checks.specs.declared.Check.{Check}
+use Rattle.checks.specs.declared.Check.the-variants as check
+use Rattle.setup.specs.declared.GwrOptions.{GwrOptions}
 use Rattle.plan.specs.declared.Plan.{Plan}
 use Rattle.plan.specs.declared.Plan.the-variants as plan
-use Rattle.plan.specs.Checks.{judge, inputTests}
+use Rattle.checks.specs.Judge.{judge}
+use Rattle.plan.specs.Checks.{inputTests}
 use Rattle.plan.specs.Plan.{greatestDistance, leastDistance, usableDistance, leastCount, greatestCount, distancePlan, rangePlan, countPlan, bandwidthAt, givenPlan, searchPlan, planOf, after, acceptOf}
 use Rattle.plan.proofs.Acceptance.{sought-accepted}
 use Rattle.gwr.specs.declared.Search.{Search}

@@ -10,10 +10,10 @@ use lib.Seq.{getD-set-same, getD-set-other}
 use lib.Ieee.{Float, nan, inf, fin, binary64, ne, isNan, ofBits, toBits}
 use lib.Ieee.Compare.{differs-from-itself, nan-differs}
 use borrow.Author.Tests.{eqb-true, eqb-false}
-use Rattle.neighbours.specs.declared.GwrBandwidth.{GwrBandwidth}
-use Rattle.neighbours.specs.declared.GwrBandwidth.the-variants.{Fixed, AdaptiveKnn}
-use Rattle.normal.specs.Data.{Data}
-use Rattle.plan.specs.declared.GwrOptions.{GwrOptions}
+use Rattle.setup.specs.declared.GwrBandwidth.{GwrBandwidth}
+use Rattle.setup.specs.declared.GwrBandwidth.the-variants.{Fixed, AdaptiveKnn}
+use Rattle.setup.specs.Data.{Data}
+use Rattle.setup.specs.declared.GwrOptions.{GwrOptions}
 use Rattle.plan.specs.Plan.{bandwidthAt}
 use Rattle.gwr.specs.declared.Trial.{Trial}
 use Rattle.gwr.specs.Search.{trialOf, Tried}

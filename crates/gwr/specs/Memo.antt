@@ -6,10 +6,10 @@ use mathlib.Core.List.{List, []}
 use lib.ListN.{length, getD}
 use lib.Ieee.{Float, nan, binary64, ofBits, toBits}
 use Rattle.kernel.specs.declared.GwrKernel.{GwrKernel}
-use Rattle.neighbours.specs.declared.GwrBandwidth.{GwrBandwidth}
-use Rattle.neighbours.specs.declared.GwrBandwidth.the-variants.{Fixed, AdaptiveKnn}
-use Rattle.normal.specs.Data.{Data}
-use Rattle.plan.specs.declared.GwrOptions.{GwrOptions}
+use Rattle.setup.specs.declared.GwrBandwidth.{GwrBandwidth}
+use Rattle.setup.specs.declared.GwrBandwidth.the-variants.{Fixed, AdaptiveKnn}
+use Rattle.setup.specs.Data.{Data}
+use Rattle.setup.specs.declared.GwrOptions.{GwrOptions}
 use Rattle.gwr.specs.declared.Trial.{Trial}
 use Rattle.gwr.specs.Sweep.{sweepOf}
 use Rattle.gwr.specs.Search.{trialFrom, Tried}

@@ -5,11 +5,11 @@ use mathlib.Core.Bool.{false, cond}
 use lib.Ieee.{Float, binary64, add, sub, mul, lt, le, ofBits}
 use Rattle.real.specs.Fold.{range}
 use Rattle.real.specs.Reals.{magnitude, lesser}
-use Rattle.normal.specs.Data.{Data}
+use Rattle.setup.specs.Data.{Data}
 use Rattle.criterion.specs.Aicc.{scoreOf}
 use Rattle.golden.specs.declared.Bracket.{Bracket}
 use Rattle.golden.specs.Golden.{invPhi, invPhi2, startOf, firstOf, secondOf, aimOf, narrowOf, tightOf}
-use Rattle.plan.specs.declared.GwrOptions.{GwrOptions}
+use Rattle.setup.specs.declared.GwrOptions.{GwrOptions}
 use Rattle.plan.specs.Plan.{bandwidthAt}
 use Rattle.gwr.specs.declared.Sweep.{Sweep}
 use Rattle.gwr.specs.declared.Trial.{Trial}

@@ -3,7 +3,7 @@ ghost use mathlib.Core.Path.{_≡_};
 ghost use Prim.Native.Nat.{_+_, _*_, _≤_, _<_};
 ghost use lib.ListN.{length};
 ghost use lib.Ieee.{binary64, ofBits, toBits};
-ghost use Rattle.neighbours.specs.Bandwidth.{Usable};
+ghost use Rattle.setup.specs.Bandwidth.{Usable};
 ghost use Rattle.plan.specs.Shape.{Shaped};
 ghost use Rattle.gwr.specs.Sweep.{lentData, newSweep, addOf, stopOf, afterOf, visitOf, sweepOf, endingOf, writeOf, visitFinal, sweepFinal, Visited, Swept, Written, SweptFinal};
 ghost use Rattle.gwr.specs.Search.{trialOf, roundOf, openedOf, goldenOf, Opened, Tried, Rounded, Searched};
@@ -15,10 +15,10 @@ use golden::Bracket;
 use kernel::GwrKernel;
 use local::Outcome;
 use local::Values;
-use neighbours::GwrBandwidth;
-use plan::GwrOptions;
 use plan::Plan;
 use refusal::Refusal;
+use setup::GwrBandwidth;
+use setup::GwrOptions;
 
 // Whether a sweep goes on.
 pub enum Course {

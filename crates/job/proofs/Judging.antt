@@ -10,9 +10,10 @@ use lib.ListN.{length}
 use lib.Ieee.{Float}
 use Rattle.refusal.specs.declared.Refusal.{Refusal}
 use Rattle.refusal.specs.declared.Refusal.the-variants.{UnfitRecord, AlreadyEnded, LengthsDiffer}
-use Rattle.plan.specs.declared.Check.{Check}
-use Rattle.plan.specs.declared.Check.the-variants as check
-use Rattle.plan.specs.Checks.{judge, valueTests, roomTests}
+use Rattle.checks.specs.declared.Check.{Check}
+use Rattle.checks.specs.declared.Check.the-variants as check
+use Rattle.checks.specs.Judge.{judge}
+use Rattle.plan.specs.Checks.{valueTests, roomTests}
 use Rattle.plan.specs.Shape.{Shaped}
 use Rattle.plan.proofs.Acceptance.{pass-head, pass-append}
 use Rattle.job.specs.declared.Job.{Job}

@@ -7,8 +7,8 @@ use borrow.Author.Tests.{eq-eqb, ne-eqb}
 use lib.Dec.{eqb}
 use lib.ListN.{length}
 use lib.Ieee.{Float}
-use Rattle.neighbours.specs.declared.GwrBandwidth.{GwrBandwidth}
-use Rattle.normal.specs.Data.{Data}
+use Rattle.setup.specs.declared.GwrBandwidth.{GwrBandwidth}
+use Rattle.setup.specs.Data.{Data}
 use Rattle.local.specs.declared.Values.{Values}
 use Rattle.local.specs.declared.Outcome.{Outcome}
 use Rattle.local.specs.declared.Outcome.the-variants as outcome
@@ -17,12 +17,12 @@ use Rattle.criterion.specs.declared.Criterion.{Criterion}
 use Rattle.criterion.specs.Aicc.{correctedAic, scoreOf}
 use Rattle.golden.specs.declared.Bracket.{Bracket}
 use Rattle.golden.specs.Golden.{firstOf, secondOf, aimOf, narrowOf}
-use Rattle.plan.specs.declared.GwrOptions.{GwrOptions}
+use Rattle.setup.specs.declared.GwrOptions.{GwrOptions}
 use Rattle.plan.specs.declared.Plan.{Plan}
 use Rattle.plan.specs.Plan.{acceptOf}
 use Rattle.job.specs.declared.Stage.{Stage}
 use Rattle.job.specs.declared.Stage.the-variants.{First, Second, Round, Final, Ended}
-use Rattle.job.specs.declared.Setup.{Setup}
+use Rattle.setup.specs.declared.Setup.{Setup}
 use Rattle.job.specs.declared.Job.{Job}
 use Rattle.job.specs.declared.Begun.{Begun}
 use Rattle.job.specs.Step.{nextSweep, closeFirst, closeSecond, closeRound, lastRound, closeAt, closeOf, addedJob, movedJob, passedOf, advanceOf, countedJob, afterSolve, solveOf, stepJob, writeAt, stepOut, stepOf}

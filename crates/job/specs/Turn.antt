@@ -7,24 +7,25 @@ use lib.ListN.{length}
 use lib.Ieee.{Float}
 use Rattle.refusal.specs.declared.Refusal.{Refusal}
 use Rattle.refusal.specs.declared.Refusal.the-variants.{UnfitRecord, AlreadyEnded, LengthsDiffer}
-use Rattle.neighbours.specs.declared.GwrBandwidth.{GwrBandwidth}
-use Rattle.neighbours.specs.declared.GwrBandwidth.the-variants.{AdaptiveKnn}
-use Rattle.neighbours.specs.Bandwidth.{reportValue}
+use Rattle.setup.specs.declared.GwrBandwidth.{GwrBandwidth}
+use Rattle.setup.specs.declared.GwrBandwidth.the-variants.{AdaptiveKnn}
+use Rattle.setup.specs.Bandwidth.{reportValue}
 use Rattle.criterion.specs.declared.Criterion.{Criterion}
 use Rattle.criterion.specs.declared.Criterion.the-variants as criterion
 use Rattle.criterion.specs.declared.Summary.{Summary}
 use Rattle.criterion.specs.Aicc.{failedSummary}
 use Rattle.golden.specs.Golden.{noBracket, startOf}
-use Rattle.plan.specs.declared.Check.{Check}
-use Rattle.plan.specs.declared.Check.the-variants as check
-use Rattle.plan.specs.declared.GwrOptions.{GwrOptions}
+use Rattle.checks.specs.declared.Check.{Check}
+use Rattle.checks.specs.declared.Check.the-variants as check
+use Rattle.setup.specs.declared.GwrOptions.{GwrOptions}
 use Rattle.plan.specs.declared.Plan.{Plan}
 use Rattle.plan.specs.declared.Plan.the-variants as plan
-use Rattle.plan.specs.Checks.{judge, valueTests, roomTests}
+use Rattle.checks.specs.Judge.{judge}
+use Rattle.plan.specs.Checks.{valueTests, roomTests}
 use Rattle.plan.specs.Plan.{acceptOf, bandwidthAt}
 use Rattle.job.specs.declared.Stage.{Stage}
 use Rattle.job.specs.declared.Stage.the-variants.{First, Second, Round, Final, Ended}
-use Rattle.job.specs.declared.Setup.{Setup}
+use Rattle.setup.specs.declared.Setup.{Setup}
 use Rattle.job.specs.declared.Job.{Job}
 use Rattle.job.specs.declared.Beginning.{Beginning}
 use Rattle.job.specs.declared.Beginning.the-variants as beginning

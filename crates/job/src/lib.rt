@@ -4,22 +4,23 @@ ghost use mathlib.Core.Bool.{false, true, _&&_};
 ghost use Prim.Native.Nat.{_+_, _*_, _^_, _≤_, _<_};
 ghost use lib.Dec.{leb};
 ghost use lib.ListN.{length};
-ghost use Rattle.neighbours.specs.Bandwidth.{Usable};
-ghost use Rattle.plan.specs.Checks.{judge};
+ghost use Rattle.setup.specs.Bandwidth.{Usable};
+ghost use Rattle.checks.specs.Judge.{judge};
 ghost use Rattle.plan.specs.Shape.{Shaped};
 ghost use Rattle.job.specs.Step.{lentData, freshJob, nextSweep, closeFirst, closeSecond, closeRound, lastRound, endJob, closeOf, advanceOf, afterSolve, writeAt, stepOf, endedAt};
 ghost use Rattle.job.specs.Fitness.{sizesFit, kindsFit, trialsFit, endedSolve, solvesFit, isFit, Sized, Sound};
 ghost use Rattle.job.specs.Turn.{blankJob, beginOf, lengthsFit, lentTests, turnTests, endedAnswer, answerAt, tellOf, runOf, turnOf};
+use checks::Check;
 use criterion::Criterion;
 use criterion::Summary;
 use golden::Bracket;
 use local::Outcome;
 use local::Values;
-use neighbours::GwrBandwidth;
-use plan::Check;
-use plan::GwrOptions;
 use plan::Plan;
 use refusal::Refusal;
+use setup::GwrBandwidth;
+use setup::GwrOptions;
+use setup::Setup;
 
 // What a job is at: its first trial, its second, a round's, its final fit; or it has ended.
 pub enum Stage {
@@ -82,13 +83,6 @@ fn both(a: bool, b: bool) -> bool
     ensures { λ r. ⌜ r ≡ (a && b) ⌝ }
 {
     if a { b } else { false }
-}
-
-// What does not change over a job.
-pub struct Setup {
-    pub options: GwrOptions,
-    pub n: usize,
-    pub p: usize,
 }
 
 // The job record.

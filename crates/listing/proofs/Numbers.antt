@@ -12,10 +12,10 @@ use Rattle.wire.specs.Wire.{bitsOf, lowBytes, bytesOf, numberOf, loadOf, placed
 use Rattle.wire.proofs.Numbers.{length-bytesOf}
 use Rattle.text.specs.Listing.{hexIn, hexDigits, bitsText, bitsTexts, rowLine, rowLines, summaryLine, listing, loads, rowsOf}
 use Rattle.criterion.specs.declared.Summary.{Summary}
-use Rattle.plan.specs.declared.GwrOptions.{GwrOptions}
-use Rattle.plan.specs.declared.Check.{Check}
-use Rattle.plan.specs.declared.Check.the-variants as check
-use Rattle.plan.specs.Checks.{judge}
+use Rattle.setup.specs.declared.GwrOptions.{GwrOptions}
+use Rattle.checks.specs.declared.Check.{Check}
+use Rattle.checks.specs.declared.Check.the-variants as check
+use Rattle.checks.specs.Judge.{judge}
 use Rattle.gwr.specs.declared.FitAnswer.{FitAnswer}
 use Rattle.gwr.specs.declared.FitAnswer.the-variants.{Fitted, Failed, Rejected}
 use Rattle.calls.specs.declared.Choice.{Choice}

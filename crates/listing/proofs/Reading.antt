@@ -12,7 +12,7 @@ use lib.Seq.{take-all, take-nil, take-take, take-add, take-at, drop-at}
 use Rattle.wire.specs.Wire.{numberOf, loadOf, placed}
 use Rattle.text.specs.Listing.{Written}
 use Rattle.refusal.specs.declared.Refusal.{Refusal}
-use Rattle.plan.specs.Checks.{judge}
+use Rattle.checks.specs.Judge.{judge}
 use Rattle.calls.specs.Calls.{After}
 use Rattle.listing.specs.declared.Head.{Head}
 use Rattle.listing.specs.declared.Header.{Header}

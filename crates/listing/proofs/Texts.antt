@@ -13,10 +13,10 @@ use Rattle.text.specs.Listing.{refusedLine, listing, rowsOf, Written}
 use Rattle.refusal.specs.Numbers.{refusalNumber}
 use Rattle.refusal.specs.declared.Refusal.{Refusal}
 use Rattle.refusal.specs.declared.Refusal.the-variants.{NoCoordinates, UnknownNumber}
-use Rattle.plan.specs.declared.GwrOptions.{GwrOptions}
-use Rattle.plan.specs.declared.Check.{Check}
-use Rattle.plan.specs.declared.Check.the-variants as check
-use Rattle.plan.specs.Checks.{judge}
+use Rattle.setup.specs.declared.GwrOptions.{GwrOptions}
+use Rattle.checks.specs.declared.Check.{Check}
+use Rattle.checks.specs.declared.Check.the-variants as check
+use Rattle.checks.specs.Judge.{judge}
 use Rattle.calls.specs.declared.Choice.{Choice}
 use Rattle.calls.specs.declared.Choice.the-variants as choice
 use Rattle.calls.specs.Options.{optionsOf}

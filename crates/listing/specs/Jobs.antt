@@ -9,9 +9,9 @@ use Rattle.text.specs.Listing.{refusedLine, listing, rowsOf}
 use Rattle.refusal.specs.Numbers.{refusalNumber}
 use Rattle.refusal.specs.declared.Refusal.{Refusal}
 use Rattle.refusal.specs.declared.Refusal.the-variants.{OddCoordinates, PredictorLength, ResponseLength}
-use Rattle.plan.specs.declared.Check.{Check}
-use Rattle.plan.specs.declared.Check.the-variants as check
-use Rattle.plan.specs.Checks.{judge}
+use Rattle.checks.specs.declared.Check.{Check}
+use Rattle.checks.specs.declared.Check.the-variants as check
+use Rattle.checks.specs.Judge.{judge}
 use Rattle.calls.specs.Calls.{After, fitBytes}
 use Rattle.listing.specs.declared.Head.{Head}
 

@@ -7,7 +7,7 @@ use Rattle.real.specs.Reals.{zero64}
 use Rattle.wire.specs.Wire.{bitsOf, reals}
 use Rattle.text.specs.Listing.{refusedLine, listing}
 use Rattle.refusal.specs.Numbers.{refusalNumber}
-use Rattle.plan.specs.declared.GwrOptions.{GwrOptions}
+use Rattle.setup.specs.declared.GwrOptions.{GwrOptions}
 use Rattle.gwr.specs.declared.FitAnswer.{FitAnswer}
 use Rattle.gwr.specs.declared.FitAnswer.the-variants.{Fitted, Failed, Rejected}
 use Rattle.gwr.specs.declared.Fit.{Fit}

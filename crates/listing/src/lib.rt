@@ -4,12 +4,12 @@ ghost use Prim.Native.Nat.{_+_, _*_, _≤_, _<_};
 ghost use lib.ListN.{length};
 ghost use Rattle.wire.specs.Wire.{loadOf};
 ghost use Rattle.text.specs.Listing.{Written};
-ghost use Rattle.plan.specs.Checks.{judge};
+ghost use Rattle.checks.specs.Judge.{judge};
 ghost use Rattle.listing.specs.Headers.{headOf, sizeTests, headerAfter, headerOf, partsLen, HeaderRead};
 ghost use Rattle.listing.specs.Jobs.{responsesEnd, cutTests, answerText, wholeText, jobText};
 ghost use Rattle.listing.specs.Printed.{printed, asked};
 use calls::Choice;
-use plan::Check;
+use checks::Check;
 use refusal::Refusal;
 
 // The five numbers of a whole header that is not refused.

@@ -8,8 +8,8 @@ use lib.ListN.{length, length-set}
 use lib.Ieee.{Float}
 use Rattle.real.proofs.Fold.{kept}
 use Rattle.kernel.specs.declared.GwrKernel.{GwrKernel}
-use Rattle.neighbours.specs.declared.GwrBandwidth.{GwrBandwidth}
-use Rattle.normal.specs.Data.{Data}
+use Rattle.setup.specs.declared.GwrBandwidth.{GwrBandwidth}
+use Rattle.setup.specs.Data.{Data}
 use Rattle.normal.specs.Weights.{weighStep, weightsBy}
 use Rattle.local.specs.declared.Estimated.{Estimated}
 use Rattle.local.specs.Inner.{Row, Matrix}

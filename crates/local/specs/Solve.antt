@@ -2,9 +2,9 @@
 use Prim.Native.Nat.{ℕ}
 use lib.Ieee.{Float}
 use Rattle.kernel.specs.declared.GwrKernel.{GwrKernel}
-use Rattle.neighbours.specs.declared.GwrBandwidth.{GwrBandwidth}
+use Rattle.setup.specs.declared.GwrBandwidth.{GwrBandwidth}
 use Rattle.neighbours.specs.Bandwidth.{bandwidthOf}
-use Rattle.normal.specs.Data.{Data}
+use Rattle.setup.specs.Data.{Data}
 use Rattle.normal.specs.Weights.{weightsAt}
 use Rattle.local.specs.declared.Estimate.{Estimate}
 use Rattle.local.specs.declared.Estimate.the-variants.{Fitted, Failed}

@@ -4,7 +4,7 @@ ghost use mathlib.Core.Bool.{_&&_};
 ghost use mathlib.Core.List.{_++_};
 ghost use Prim.Native.Nat.{_+_, _*_, _≤_, _<_};
 ghost use lib.ListN.{length, take, drop};
-ghost use Rattle.neighbours.specs.Bandwidth.{Usable};
+ghost use Rattle.setup.specs.Bandwidth.{Usable};
 ghost use Rattle.normal.specs.Normal.{designRow};
 ghost use Rattle.local.specs.Inner.{innerOf, inverseTimes};
 ghost use Rattle.local.specs.Estimate.{inverseRowFinite, inverseFinite, coefficientsFinite, coefficientsOf, refusedWith, fromInverse, fitOf};
@@ -12,8 +12,8 @@ ghost use Rattle.local.specs.Evaluate.{leverageOf, addSquares, squaresOf
 ghost use Rattle.local.specs.Solve.{dataOf, solvedUnder, solveLocal, solveLocation};
 ghost use Rattle.local.specs.Row.{rowOf, putRow};
 use kernel::GwrKernel;
-use neighbours::GwrBandwidth;
 use refusal::Refusal;
+use setup::GwrBandwidth;
 
 // What a local solve gives beside the coefficients.
 pub struct Values {

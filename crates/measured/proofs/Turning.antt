@@ -6,8 +6,8 @@ use Prim.Native.Nat.{ℕ}
 use lib.ListN.{length}
 use lib.Ieee.{Float, binary64, ofBits}
 use Rattle.kernel.specs.declared.GwrKernel.{GwrKernel}
-use Rattle.neighbours.specs.declared.GwrBandwidth.the-variants.{Fixed}
-use Rattle.plan.specs.declared.GwrOptions.{GwrOptions}
+use Rattle.setup.specs.declared.GwrBandwidth.the-variants.{Fixed}
+use Rattle.setup.specs.declared.GwrOptions.{GwrOptions}
 use Rattle.job.specs.declared.Begun.{Begun}
 use Rattle.job.specs.declared.Job.{Job}
 use Rattle.job.specs.Turn.{beginOf}

@@ -8,8 +8,8 @@ use lib.Ieee.{Float, binary64, ofBits}
 use Rattle.real.specs.Fold.{range}
 use Rattle.kernel.specs.declared.GwrKernel.{GwrKernel}
 use Rattle.kernel.specs.declared.GwrKernel.the-variants.{Gaussian, Bisquare, Exponential}
-use Rattle.neighbours.specs.declared.GwrBandwidth.the-variants.{Fixed}
-use Rattle.plan.specs.declared.GwrOptions.{GwrOptions}
+use Rattle.setup.specs.declared.GwrBandwidth.the-variants.{Fixed}
+use Rattle.setup.specs.declared.GwrOptions.{GwrOptions}
 use Rattle.job.specs.declared.Job.{Job}
 use Rattle.job.specs.Turn.{beginOf, turnOf}
 

@@ -9,8 +9,8 @@ ghost use Rattle.elementary.specs.Exp.{expv};
 ghost use Rattle.measured.specs.Turns.{kernelBy, playOf, turnsOf};
 use job::Job;
 use kernel::GwrKernel;
-use neighbours::GwrBandwidth;
-use plan::GwrOptions;
+use setup::GwrBandwidth;
+use setup::GwrOptions;
 
 // Each number becomes its square root.
 #[no_mangle]

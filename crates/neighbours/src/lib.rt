@@ -10,28 +10,11 @@ ghost use lib.ListN.{length, take, drop, getD};
 ghost use Rattle.real.specs.Reals.{zero64};
 ghost use Rattle.neighbours.specs.Insert.{Placed, movedUp, inserted};
 ghost use Rattle.neighbours.specs.Walk.{Keeps, Walked, keepOf, meetOf, passOf, walkOf, foundOf, nearestOf};
-ghost use Rattle.neighbours.specs.Bandwidth.{Usable, reportValue, bandwidthOf};
+ghost use Rattle.setup.specs.Bandwidth.{Usable};
+ghost use Rattle.neighbours.specs.Bandwidth.{bandwidthOf};
 ghost use Rattle.neighbours.specs.Sums.{sumsOf, atMost, fewer, isKth, Selected};
 ghost use Rattle.neighbours.specs.Count.{ceilRoot, chosenCount, Resolved};
-
-// 000's bandwidth: a distance, or a number of neighbours.
-pub enum GwrBandwidth {
-    Fixed(f64),
-    AdaptiveKnn(usize),
-}
-
-impl GwrBandwidth {
-    // The number that a summary reports: the distance, or the count as a real.
-    pub fn report_value(self) -> f64
-        requires { ⌜ Usable self ⌝ }
-        ensures { λ r. ⌜ r ≡ reportValue self ⌝ }
-    {
-        match self {
-            GwrBandwidth::Fixed(b) => b,
-            GwrBandwidth::AdaptiveKnn(k) => real::from_count(k),
-        }
-    }
-}
+use setup::GwrBandwidth;
 
 // How far a walk has come: how many distances are kept, and the greatest of all that it met.
 pub struct Walk {

@@ -16,7 +16,7 @@ use Rattle.kernel.specs.declared.GwrKernel.{GwrKernel}
 use Rattle.kernel.specs.Weight.{weightOf, distanceOf, totalOf, FromZeroToOne}
 use Rattle.kernel.proofs.WeightRange.{weights-in, weight-zero, never-refused}
 use Rattle.kernel.proofs.DistanceRange.{distance-above, distance-own}
-use Rattle.normal.specs.Data.{Data}
+use Rattle.setup.specs.Data.{Data}
 use Rattle.normal.specs.Weights.{weighStep, weightsBy, weightFrom, weightsAt}
 
 -- ---- the fold's second part is the sum in order

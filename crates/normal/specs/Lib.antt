@@ -1,3 +1,2 @@
-pub mod Data
 pub mod Weights
 pub mod Normal

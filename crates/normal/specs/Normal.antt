@@ -8,7 +8,7 @@ use lib.Dec.{ltb}
 use lib.Ieee.{Float, nan, binary64, add, mul, eq, ofBits}
 use Rattle.real.specs.Fold.{range}
 use Rattle.real.specs.Reals.{zero64, one64}
-use Rattle.normal.specs.Data.{Data}
+use Rattle.setup.specs.Data.{Data}
 
 -- the cells of a row
 abbrev pub Row : Type 0

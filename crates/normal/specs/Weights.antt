@@ -7,7 +7,7 @@ use Rattle.real.specs.Fold.{range}
 use Rattle.real.specs.Reals.{zero64}
 use Rattle.kernel.specs.declared.GwrKernel.{GwrKernel}
 use Rattle.kernel.specs.Weight.{weightOf, distanceOf}
-use Rattle.normal.specs.Data.{Data}
+use Rattle.setup.specs.Data.{Data}
 
 -- `*w = kw; weight_sum += kw;` for observation j, whose weight is v j
 unfoldable pub weighStep : (ℕ → Float) → ℕ → List Float × Float → List Float × Float

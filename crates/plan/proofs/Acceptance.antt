@@ -10,16 +10,17 @@ use lib.Dec.{leb}
 use lib.Ieee.{Float, le}
 use Rattle.real.specs.Reals.{roundInto}
 use Rattle.refusal.specs.declared.Refusal.{Refusal}
-use Rattle.neighbours.specs.declared.GwrBandwidth.{GwrBandwidth}
-use Rattle.neighbours.specs.declared.GwrBandwidth.the-variants.{Fixed, AdaptiveKnn}
-use Rattle.neighbours.specs.Bandwidth.{Usable}
+use Rattle.setup.specs.declared.GwrBandwidth.{GwrBandwidth}
+use Rattle.setup.specs.declared.GwrBandwidth.the-variants.{Fixed, AdaptiveKnn}
+use Rattle.setup.specs.Bandwidth.{Usable}
 use Rattle.neighbours.specs.Count.{resolvedCount}
-use Rattle.plan.specs.declared.Check.{Check}
-use Rattle.plan.specs.declared.Check.the-variants as check
+use Rattle.checks.specs.declared.Check.{Check}
+use Rattle.checks.specs.declared.Check.the-variants as check
 use Rattle.plan.specs.declared.Plan.{Plan}
 use Rattle.plan.specs.declared.Plan.the-variants.{Settled, Sought, Refused}
-use Rattle.plan.specs.declared.GwrOptions.{GwrOptions}
-use Rattle.plan.specs.Checks.{judge, lengthTests, shapeTests, allFinite, finiteTests, valueTests, roomTests, inputTests}
+use Rattle.setup.specs.declared.GwrOptions.{GwrOptions}
+use Rattle.checks.specs.Judge.{judge}
+use Rattle.plan.specs.Checks.{lengthTests, shapeTests, allFinite, finiteTests, valueTests, roomTests, inputTests}
 use Rattle.plan.specs.Plan.{greatestDistance, leastDistance, usableDistance, leastCount, greatestCount, distancePlan, rangePlan, countPlan, bandwidthAt, givenPlan, searchPlan, planOf, after, acceptOf}
 use Rattle.plan.specs.Shape.{Shaped, Accepted}
 

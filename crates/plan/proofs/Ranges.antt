@@ -17,11 +17,11 @@ use lib.Ieee.Scale.{finite}
 use lib.Ieee.Positive.{num}
 use Rattle.real.specs.Reals.{greater, lesser, zero64}
 use Rattle.real.proofs.SignedOrder.{natural, nat-fin, nat-above, in-fin, le-tr, le-total, lt→le, round-smono, div-smono, zero-over}
-use Rattle.neighbours.specs.declared.GwrBandwidth.{GwrBandwidth}
-use Rattle.neighbours.specs.declared.GwrBandwidth.the-variants.{Fixed, AdaptiveKnn}
+use Rattle.setup.specs.declared.GwrBandwidth.{GwrBandwidth}
+use Rattle.setup.specs.declared.GwrBandwidth.the-variants.{Fixed, AdaptiveKnn}
 use Rattle.plan.specs.declared.Plan.{Plan}
 use Rattle.plan.specs.declared.Plan.the-variants.{Settled, Sought, Refused}
-use Rattle.plan.specs.declared.GwrOptions.{GwrOptions}
+use Rattle.setup.specs.declared.GwrOptions.{GwrOptions}
 use Rattle.plan.specs.Plan.{realOf, greatestDistance, leastDistance, usableDistance, leastCount, greatestCount, distancePlan, rangePlan, countPlan, givenPlan, searchPlan, planOf, acceptOf}
 use Rattle.plan.proofs.Acceptance.{unrefused, sought-accepted}
 

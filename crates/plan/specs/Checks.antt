@@ -1,6 +1,6 @@
 -- The input checks of 01's 'Refusals from the input', as ordered lists. Definitions only.
 use Prim.Native.Nat.{ℕ, _+_, _*_, _/_, _%_}
-use mathlib.Core.Bool.{Bool, true, cond, not, _&&_}
+use mathlib.Core.Bool.{Bool, true, not, _&&_}
 use mathlib.Core.List.{List, [], _∷_, _++_}
 use lib.Dec.{eqb, ltb}
 use lib.ListN.{length}
@@ -8,13 +8,6 @@ use lib.Ieee.{Float}
 use lib.Ieee.Scale.{finite}
 use Rattle.refusal.specs.declared.Refusal.{Refusal}
 use Rattle.refusal.specs.declared.Refusal.the-variants.{NoCoordinates, OddCoordinates, TooManyObservations, TooManyPredictors, PredictorLength, ResponseLength, TooFewObservations, ResponseNotFinite, CoordinateNotFinite, PredictorNotFinite, OutputTooShort}
-use Rattle.plan.specs.declared.Check.{Check}
-use Rattle.plan.specs.declared.Check.the-variants.{Pass, Refused}
-
--- the first test that holds gives its refusal; where none holds, the input passes
-unfoldable pub judge : List (Bool × Refusal) → Check
-judge [] = Pass
-judge (t ∷ ts) = cond (t .0) (Refused (t .1)) (judge ts)
 
 -- 01: 5 predictor length not n × p, 6 response length not n, 7 n < p + 1
 unfoldable pub lengthTests : ℕ → ℕ → ℕ → ℕ → List (Bool × Refusal)

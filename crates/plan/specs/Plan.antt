@@ -1,7 +1,7 @@
 -- What a job does, from its options: a final fit at once, or a search first. Definitions only.
 use Prim.Native.Nat.{ℕ, _+_, _*_, _-_, _/_, max}
 use mathlib.Core.Path.{_≡_}
-use mathlib.Core.Bool.{Bool, false, cond, _&&_}
+use mathlib.Core.Bool.{Bool, cond, _&&_}
 use mathlib.Core.List.{List}
 use lib.Dec.{leb}
 use lib.IntN.{pos}
@@ -12,21 +12,17 @@ use Rattle.real.specs.Fold.{range}
 use Rattle.real.specs.Reals.{greater, lesser, roundInto, zero64}
 use Rattle.refusal.specs.declared.Refusal.the-variants.{UnusableDistance, NoDistanceRange}
 use Rattle.kernel.specs.Weight.{distanceOf}
-use Rattle.kernel.specs.declared.GwrKernel.the-variants.{Bisquare}
-use Rattle.neighbours.specs.declared.GwrBandwidth.{GwrBandwidth}
-use Rattle.neighbours.specs.declared.GwrBandwidth.the-variants.{Fixed, AdaptiveKnn}
-use Rattle.neighbours.specs.Bandwidth.{Usable}
+use Rattle.setup.specs.declared.GwrBandwidth.{GwrBandwidth}
+use Rattle.setup.specs.declared.GwrBandwidth.the-variants.{Fixed, AdaptiveKnn}
+use Rattle.setup.specs.Bandwidth.{Usable}
 use Rattle.neighbours.specs.Count.{resolvedCount}
-use Rattle.plan.specs.declared.Check.{Check}
-use Rattle.plan.specs.declared.Check.the-variants as check
+use Rattle.checks.specs.declared.Check.{Check}
+use Rattle.checks.specs.declared.Check.the-variants as check
 use Rattle.plan.specs.declared.Plan.{Plan}
 use Rattle.plan.specs.declared.Plan.the-variants.{Settled, Sought, Refused}
-use Rattle.plan.specs.declared.GwrOptions.{GwrOptions}
-use Rattle.plan.specs.Checks.{judge, inputTests}
-
--- 01's default options: Bisquare, count 0, no search
-abbrev pub defaultOptions : GwrOptions
-defaultOptions = record { kernel = Bisquare; bandwidth = AdaptiveKnn 0; «optimize_bandwidth» = false }
+use Rattle.setup.specs.declared.GwrOptions.{GwrOptions}
+use Rattle.checks.specs.Judge.{judge}
+use Rattle.plan.specs.Checks.{inputTests}
 
 -- n as a real
 abbrev pub realOf : ℕ → Float

@@ -3,39 +3,14 @@ ghost use mathlib.Core.Path.{_≡_};
 ghost use mathlib.Core.Bool.{_&&_};
 ghost use Prim.Native.Nat.{_+_, _*_, _≤_, _<_};
 ghost use lib.ListN.{length};
-ghost use Rattle.plan.specs.Checks.{judge, lengthTests, shapeTests, allFinite, finiteTests, valueTests, roomTests};
-ghost use Rattle.plan.specs.Plan.{defaultOptions, fartherFrom, greatestDistance, leastDistance, usableDistance, distancePlan, rangePlan, leastCount, greatestCount, countPlan, BandwidthAt, givenPlan, searchPlan, planOf, after, acceptOf};
+ghost use Rattle.checks.specs.Judge.{judge};
+ghost use Rattle.plan.specs.Checks.{lengthTests, shapeTests, allFinite, finiteTests, valueTests, roomTests};
+ghost use Rattle.plan.specs.Plan.{fartherFrom, greatestDistance, leastDistance, usableDistance, distancePlan, rangePlan, leastCount, greatestCount, countPlan, BandwidthAt, givenPlan, searchPlan, planOf, after, acceptOf};
 ghost use Rattle.plan.specs.Shape.{Shaped};
-use kernel::GwrKernel;
-use neighbours::GwrBandwidth;
+use checks::Check;
 use refusal::Refusal;
-
-// 000's options.
-pub struct GwrOptions {
-    pub kernel: GwrKernel,
-    pub bandwidth: GwrBandwidth,
-    pub optimize_bandwidth: bool,
-}
-
-impl GwrOptions {
-    // Bisquare, count 0, no search.
-    pub fn default_options() -> Self
-        ensures { λ r. ⌜ r ≡ defaultOptions ⌝ }
-    {
-        let kernel = GwrKernel::Bisquare;
-        let bandwidth = GwrBandwidth::AdaptiveKnn(0);
-        GwrOptions {
-            kernel,
-            bandwidth,
-            optimize_bandwidth: false,
-        }
-    }
-}
-
-pub enum Check {
-    Pass,
-    Refused(Refusal),
-}
+use setup::GwrBandwidth;
+use setup::GwrOptions;
 
 // Refusals 1 to 7: the lengths of the slices and the number of predictors.
 fn check_shape(coords: usize, x: usize, y: usize, p: usize) -> Check

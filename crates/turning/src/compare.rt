@@ -4,10 +4,10 @@ use criterion::Summary;
 use golden::Bracket;
 use job::Answer;
 use job::Job;
-use job::Setup;
 use job::Stage;
 use kernel::GwrKernel;
-use neighbours::GwrBandwidth;
+use setup::GwrBandwidth;
+use setup::Setup;
 
 pub fn same_real(a: f64, b: f64) -> bool {
     wire::bits_of(a) == wire::bits_of(b)

@@ -14,7 +14,7 @@ use gwr::FitAnswer;
 use job::Answer;
 use job::Beginning;
 use job::Job;
-use plan::GwrOptions;
+use setup::GwrOptions;
 
 // After a turn: whether its output is that of the record that follows, and that of the uninterrupted fit, and the steps so far.
 struct Seen {

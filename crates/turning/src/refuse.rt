@@ -4,11 +4,11 @@ use crate::tally::Tally;
 use criterion::Criterion;
 use golden::Bracket;
 use job::Job;
-use job::Setup;
 use job::Stage;
 use kernel::GwrKernel;
-use neighbours::GwrBandwidth;
-use plan::GwrOptions;
+use setup::GwrBandwidth;
+use setup::GwrOptions;
+use setup::Setup;
 
 // A record in numbers, and what a turn with no allowance on it must answer, 99 for working.
 struct Row {

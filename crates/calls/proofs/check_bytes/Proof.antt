@@ -2,7 +2,7 @@
 use borrow.Author.Needs.{needs}
 use borrow.Author.Tests.{eq-eqb, ne-eqb, lt-ltb, le-ltb}
 use native.Mathlib.Omega.{arith}
-use Rattle.plan.specs.Checks.{judge}
+use Rattle.checks.specs.Judge.{judge}
 use Rattle.calls.specs.Calls.{byteTests}
 use Rattle.calls.proofs.check_bytes.Statement.{statement}
 use Rattle.calls.proofs.check_bytes.Tie as tie

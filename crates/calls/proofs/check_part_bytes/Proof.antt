@@ -3,7 +3,7 @@ use borrow.Author.Needs.{needs}
 use borrow.Author.Tests.{eq-eqb, ne-eqb, lt-ltb, le-ltb}
 use native.Mathlib.Nat.{mul-le-mul}
 use native.Mathlib.Omega.{arith}
-use Rattle.plan.specs.Checks.{judge}
+use Rattle.checks.specs.Judge.{judge}
 use Rattle.calls.specs.Calls.{partTests}
 use Rattle.calls.proofs.check_part_bytes.Statement.{statement}
 use Rattle.calls.proofs.check_part_bytes.Tie as tie

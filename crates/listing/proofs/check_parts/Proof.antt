@@ -3,7 +3,7 @@ use borrow.Author.Needs.{needs}
 use borrow.Author.Tests.{eq-eqb, ne-eqb, lt-ltb, le-ltb}
 use native.Mathlib.Omega.{arith}
 use native.Mathlib.Nat.{mul-le-mul}
-use Rattle.plan.specs.Checks.{judge}
+use Rattle.checks.specs.Judge.{judge}
 use Rattle.listing.specs.Jobs.{cutTests}
 use Rattle.listing.proofs.check_parts.Statement.{statement}
 use Rattle.listing.proofs.check_parts.Tie as tie

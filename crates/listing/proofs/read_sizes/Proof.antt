@@ -2,7 +2,7 @@
 use borrow.Author.Needs.{needs}
 use borrow.Author.Tests.{eq-eqb, ne-eqb, lt-ltb, le-ltb}
 use native.Mathlib.Omega.{arith}
-use Rattle.plan.specs.Checks.{judge}
+use Rattle.checks.specs.Judge.{judge}
 use Rattle.listing.specs.Headers.{sizeTests}
 use Rattle.listing.proofs.Texts.{sizes-are, whole-is}
 use Rattle.listing.proofs.read_sizes.Statement.{statement}

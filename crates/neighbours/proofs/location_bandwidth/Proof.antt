@@ -1,7 +1,8 @@
 -- `neighbours::location_bandwidth` meets its contract.
 use borrow.Author.Needs.{needs}
 use mathlib.Core.Path.{_∙_, sym, ap, subst}
-use Rattle.neighbours.specs.Bandwidth.{Usable, bandwidthOf}
+use Rattle.setup.specs.Bandwidth.{Usable}
+use Rattle.neighbours.specs.Bandwidth.{bandwidthOf}
 use Rattle.neighbours.proofs.location_bandwidth.Statement.{statement}
 use Rattle.neighbours.proofs.location_bandwidth.Tie as tie
 

@@ -2,7 +2,7 @@
 use borrow.Author.Needs.{needs}
 use mathlib.Core.Path.{sym, ap}
 use native.Mathlib.Omega.{arith}
-use Rattle.neighbours.specs.declared.GwrBandwidth.{GwrBandwidth}
+use Rattle.setup.specs.declared.GwrBandwidth.{GwrBandwidth}
 use Rattle.plan.specs.Plan.{bandwidthAt}
 use Rattle.plan.proofs.bandwidth_at.Statement.{statement}
 use Rattle.plan.proofs.bandwidth_at.Tie as tie

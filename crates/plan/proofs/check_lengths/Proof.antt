@@ -3,7 +3,8 @@ use borrow.Author.Needs.{needs}
 use borrow.Author.Tests.{eq-eqb, ne-eqb, lt-ltb, le-ltb}
 use native.Mathlib.Nat.{mul-le-mul}
 use native.Mathlib.Omega.{arith}
-use Rattle.plan.specs.Checks.{judge, lengthTests}
+use Rattle.checks.specs.Judge.{judge}
+use Rattle.plan.specs.Checks.{lengthTests}
 use Rattle.plan.proofs.check_lengths.Statement.{statement}
 use Rattle.plan.proofs.check_lengths.Tie as tie
 

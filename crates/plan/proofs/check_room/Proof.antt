@@ -4,7 +4,8 @@ use borrow.Author.Tests.{lt-ltb, le-ltb}
 use native.Mathlib.Nat.{mul-le-mul}
 use native.Mathlib.Omega.{arith}
 use Prim.Native.Nat.{_+_, _≤_}
-use Rattle.plan.specs.Checks.{judge, roomTests}
+use Rattle.checks.specs.Judge.{judge}
+use Rattle.plan.specs.Checks.{roomTests}
 use Rattle.plan.proofs.check_room.Statement.{statement}
 use Rattle.plan.proofs.check_room.Tie as tie
 

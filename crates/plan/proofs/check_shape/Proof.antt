@@ -2,7 +2,8 @@
 use borrow.Author.Needs.{needs}
 use borrow.Author.Tests.{eq-eqb, ne-eqb, lt-ltb, le-ltb}
 use native.Mathlib.Omega.{arith}
-use Rattle.plan.specs.Checks.{judge, shapeTests}
+use Rattle.checks.specs.Judge.{judge}
+use Rattle.plan.specs.Checks.{shapeTests}
 use Rattle.plan.proofs.check_shape.Statement.{statement}
 use Rattle.plan.proofs.check_shape.Tie as tie
 

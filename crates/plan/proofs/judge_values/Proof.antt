@@ -1,5 +1,6 @@
 -- `plan::judge_values` meets its contract: its tests are the list's, in order.
-use Rattle.plan.specs.Checks.{judge, finiteTests}
+use Rattle.checks.specs.Judge.{judge}
+use Rattle.plan.specs.Checks.{finiteTests}
 use Rattle.plan.proofs.judge_values.Statement.{statement}
 use Rattle.plan.proofs.judge_values.Tie as tie
 

@@ -1,7 +1,7 @@
 -- `plan::plan_given` meets its contract, case by case.
 use borrow.Author.Needs.{needs}
 use mathlib.Core.Path.{sym, ap, _∙_}
-use Rattle.neighbours.specs.declared.GwrBandwidth.{GwrBandwidth}
+use Rattle.setup.specs.declared.GwrBandwidth.{GwrBandwidth}
 use Rattle.plan.specs.Plan.{givenPlan}
 use Rattle.plan.proofs.plan_given.Statement.{statement}
 use Rattle.plan.proofs.plan_given.Tie as tie

@@ -1,10 +1,10 @@
--- `neighbours::report_value` meets its contract.
+-- `setup::report_value` meets its contract.
 use borrow.Author.Needs.{needs}
 use mathlib.Core.Path.{_∙_, sym, ap, subst}
 use native.Mathlib.Omega.{arith}
-use Rattle.neighbours.specs.Bandwidth.{Usable, reportValue}
-use Rattle.neighbours.proofs.GwrBandwidth.report_value.Statement.{statement}
-use Rattle.neighbours.proofs.GwrBandwidth.report_value.Tie as tie
+use Rattle.setup.specs.Bandwidth.{Usable, reportValue}
+use Rattle.setup.proofs.GwrBandwidth.report_value.Statement.{statement}
+use Rattle.setup.proofs.GwrBandwidth.report_value.Tie as tie
 
 pub report-value-spec : {M : Type 1} → statement M
 report-value-spec =

@@ -1,0 +1,3 @@
+pub mod Bandwidth
+pub mod Options
+pub mod Data
