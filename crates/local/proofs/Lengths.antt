@@ -7,8 +7,8 @@ use native.Mathlib.Omega.{arith}
 use lib.ListN.{length, length-set}
 use lib.Ieee.{Float}
 use Rattle.real.proofs.Fold.{kept}
-use Rattle.kernel.specs.declared.GwrKernel.{GwrKernel}
 use Rattle.setup.specs.declared.GwrBandwidth.{GwrBandwidth}
+use Rattle.setup.specs.declared.Setup.{Setup}
 use Rattle.setup.specs.Data.{Data}
 use Rattle.normal.specs.Weights.{weighStep, weightsBy}
 use Rattle.local.specs.declared.Estimated.{Estimated}
@@ -51,6 +51,6 @@ unfolding fitOf refusedWith
 fit-eight x y w n p = either Eight (eliminatedOf x y w n p .0) (from-eight _ _ _) refl
 
 -- the coefficients of a location solved are 8 numbers
-pub beta-eight : (d : Data) (k : GwrKernel) (bandwidth : GwrBandwidth) (i : ℕ) → length (solveLocation d k bandwidth i .beta) ≡ 8
+pub beta-eight : (u : Setup) (d : Data) (bandwidth : GwrBandwidth) (i : ℕ) → length (solveLocation u d bandwidth i .beta) ≡ 8
 unfolding solveLocation solveLocal solvedUnder
-beta-eight d k bandwidth i = fit-eight _ _ _ _ _
+beta-eight u d bandwidth i = fit-eight _ _ _ _ _

@@ -1,9 +1,9 @@
 -- One local solve: a fit at a location, and what it says there. Definitions only.
 use Prim.Native.Nat.{ℕ}
 use lib.Ieee.{Float}
-use Rattle.kernel.specs.declared.GwrKernel.{GwrKernel}
 use Rattle.setup.specs.declared.GwrBandwidth.{GwrBandwidth}
 use Rattle.neighbours.specs.Bandwidth.{bandwidthOf}
+use Rattle.setup.specs.declared.Setup.{Setup}
 use Rattle.setup.specs.Data.{Data}
 use Rattle.normal.specs.Weights.{weightsAt}
 use Rattle.local.specs.declared.Estimate.{Estimate}
@@ -29,16 +29,12 @@ solvedUnder x y w n p i sum =
     let beta = f .0 .beta in
     record { outcome = outcomeOf (f .0 .estimate) (valuesAt x y w n p i (f .1) beta sum); beta = beta }
 
--- the data, from the slices that are handed over
-abbrev pub dataOf : Row → Row → Row → ℕ → ℕ → Data
-dataOf coords x y n p = record { coords = coords; predictors = x; responses = y; n = n; p = p }
-
 -- `solve_local` at location i and the bandwidth distance b; its refusal of a weight sum not above zero never occurs
-unfoldable pub solveLocal : Data → GwrKernel → ℕ → Float → Solved
-solveLocal d k i b =
-    let s = weightsAt d k i b in
-    solvedUnder (d .predictors) (d .responses) (s .0) (d .n) (d .p) i (s .1)
+unfoldable pub solveLocal : Setup → Data → ℕ → Float → Solved
+solveLocal u d i b =
+    let s = weightsAt u d i b in
+    solvedUnder (d .predictors) (d .responses) (s .0) (u .n) (u .p) i (s .1)
 
 -- `solve_one`: location i at its own bandwidth, `local_bandwidth_distance`
-unfoldable pub solveLocation : Data → GwrKernel → GwrBandwidth → ℕ → Solved
-solveLocation d k bandwidth i = solveLocal d k i (bandwidthOf (d .coords) (d .n) i bandwidth)
+unfoldable pub solveLocation : Setup → Data → GwrBandwidth → ℕ → Solved
+solveLocation u d bandwidth i = solveLocal u d i (bandwidthOf (d .coords) (u .n) i bandwidth)

@@ -5,15 +5,17 @@ ghost use mathlib.Core.List.{_++_};
 ghost use Prim.Native.Nat.{_+_, _*_, _≤_, _<_};
 ghost use lib.ListN.{length, take, drop};
 ghost use Rattle.setup.specs.Bandwidth.{Usable};
+ghost use Rattle.setup.specs.Data.{dataOf};
+ghost use Rattle.setup.specs.Shape.{Shaped};
 ghost use Rattle.normal.specs.Normal.{designRow};
 ghost use Rattle.local.specs.Inner.{innerOf, inverseTimes};
 ghost use Rattle.local.specs.Estimate.{inverseRowFinite, inverseFinite, coefficientsFinite, coefficientsOf, refusedWith, fromInverse, fitOf};
 ghost use Rattle.local.specs.Evaluate.{leverageOf, addSquares, squaresOf, explainedOf, localR2, valuesAt};
-ghost use Rattle.local.specs.Solve.{dataOf, solvedUnder, solveLocal, solveLocation};
+ghost use Rattle.local.specs.Solve.{solvedUnder, solveLocal, solveLocation};
 ghost use Rattle.local.specs.Row.{rowOf, putRow};
-use kernel::GwrKernel;
 use refusal::Refusal;
 use setup::GwrBandwidth;
+use setup::Setup;
 
 // What a local solve gives beside the coefficients.
 pub struct Values {
@@ -328,22 +330,25 @@ fn solve_under(x: &[f64], y: &[f64], w: &[f64], n: usize, p: usize, i: usize, su
 }
 
 // 000's `solve_local`, at bandwidth distance b.
-fn solve_local(
-    coords: &[f64],
-    x: &[f64],
-    y: &[f64],
-    n: usize,
-    p: usize,
-    k: GwrKernel,
-    i: usize,
-    b: f64,
-) -> Solved
-    requires { ⌜ (length (now coords) ≡ 2 * n) × (length (now x) ≡ n * p) × (length (now y) ≡ n) × (n ≤ 512) × (p ≤ 7) × (i < n) ⌝ }
-    ensures { λ r. ⌜ r ≡ solveLocal (dataOf (now (coords .entry)) (now (x .entry)) (now (y .entry)) n p) k i b ⌝ }
+fn solve_local(coords: &[f64], x: &[f64], y: &[f64], u: Setup, i: usize, b: f64) -> Solved
+    requires { ⌜ Shaped u (dataOf (now coords) (now x) (now y)) ⌝ }
+    requires { ⌜ i < u .n ⌝ }
+    ensures { λ r. ⌜ r ≡ solveLocal u (dataOf (now (coords .entry)) (now (x .entry)) (now (y .entry))) i b ⌝ }
 {
     let mut w = [0.0; 512];
-    let sum = normal::weigh(coords, n, coords[2 * i], coords[2 * i + 1], k, b, &mut w);
-    solve_under(x, y, &w, n, p, i, sum)
+    let n = u.n;
+    let options = u.options;
+    let kernel = options.kernel;
+    let sum = normal::weigh(
+        coords,
+        n,
+        coords[2 * i],
+        coords[2 * i + 1],
+        kernel,
+        b,
+        &mut w,
+    );
+    solve_under(x, y, &w, n, u.p, i, sum)
 }
 
 // Location i solved at its own bandwidth.
@@ -351,18 +356,17 @@ pub fn solve_location(
     coords: &[f64],
     x: &[f64],
     y: &[f64],
-    n: usize,
-    p: usize,
-    k: GwrKernel,
+    u: Setup,
     bandwidth: GwrBandwidth,
     i: usize,
 ) -> Solved
-    requires { ⌜ (length (now coords) ≡ 2 * n) × (length (now x) ≡ n * p) × (length (now y) ≡ n) × (n ≤ 512) × (p ≤ 7) × (i < n) ⌝ }
+    requires { ⌜ Shaped u (dataOf (now coords) (now x) (now y)) ⌝ }
     requires { ⌜ Usable bandwidth ⌝ }
-    ensures { λ r. ⌜ r ≡ solveLocation (dataOf (now (coords .entry)) (now (x .entry)) (now (y .entry)) n p) k bandwidth i ⌝ }
+    requires { ⌜ i < u .n ⌝ }
+    ensures { λ r. ⌜ r ≡ solveLocation u (dataOf (now (coords .entry)) (now (x .entry)) (now (y .entry))) bandwidth i ⌝ }
 {
-    let b = neighbours::location_bandwidth(coords, n, i, bandwidth);
-    solve_local(coords, x, y, n, p, k, i, b)
+    let b = neighbours::location_bandwidth(coords, u.n, i, bandwidth);
+    solve_local(coords, x, y, u, i, b)
 }
 
 // Writes the first m of beta to the start of out.

@@ -16,8 +16,9 @@ use Rattle.kernel.specs.declared.GwrKernel.{GwrKernel}
 use Rattle.kernel.specs.Weight.{weightOf, distanceOf, totalOf, FromZeroToOne}
 use Rattle.kernel.proofs.WeightRange.{weights-in, weight-zero, never-refused}
 use Rattle.kernel.proofs.DistanceRange.{distance-above, distance-own}
+use Rattle.setup.specs.declared.Setup.{Setup}
 use Rattle.setup.specs.Data.{Data}
-use Rattle.normal.specs.Weights.{weighStep, weightsBy, weightFrom, weightsAt}
+use Rattle.normal.specs.Weights.{weighStep, weightsBy, weightFrom, weightsFrom, weightsAt}
 
 -- ---- the fold's second part is the sum in order
 sum-turns : (v : ℕ → Float) (n : ℕ) (w : List Float) → turns (weighStep v) 0 n (w, zero64) .1 ≡ totalOf v n
@@ -30,11 +31,14 @@ unfolding weightsBy range
 sum-by v n w = rw sub-zero (sum-turns v n w)
 
 -- ---- the weights seen from a location
-module _ (d : Data) (k : GwrKernel) (i : ℕ) (b : Float) (places : (j : ℕ) → j < 2 * d .n → T (finite (getD (d .coords) j nan))) (inside : i < d .n) where
+module _ (u : Setup) (d : Data) (i : ℕ) (b : Float) (places : (j : ℕ) → j < 2 * u .n → T (finite (getD (d .coords) j nan))) (inside : i < u .n) where
+  abbrev k : GwrKernel
+  k = u .options .kernel
+
   abbrev weight : ℕ → Float
   weight = weightFrom (d .coords) (getD (d .coords) (2 * i) nan) (getD (d .coords) (2 * i + 1) nan) k b
 
-  each-in : (j : ℕ) → j < d .n → FromZeroToOne (weight j)
+  each-in : (j : ℕ) → j < u .n → FromZeroToOne (weight j)
   unfolding weightFrom
   each-in j h =
       weights-in k _ b
@@ -49,11 +53,11 @@ module _ (d : Data) (k : GwrKernel) (i : ℕ) (b : Float) (places : (j : ℕ) �
       ∙ weight-zero k false b
 
   -- the sum that `weightsAt` gives
-  pub weight-sum : d .n ≤ 512 → T (finite (weightsAt d k i b .1)) × T (lt zero64 (weightsAt d k i b .1))
-  unfolding weightsAt
+  pub weight-sum : u .n ≤ 512 → T (finite (weightsAt u d i b .1)) × T (lt zero64 (weightsAt u d i b .1))
+  unfolding weightsFrom
   weight-sum few =
-      subst (λ (x : Float). T (finite x) × T (lt zero64 x)) (sym (sum-by weight (d .n) (replicate 512 zero64)))
-      (never-refused weight (d .n) i few each-in inside own-weight)
+      subst (λ (x : Float). T (finite x) × T (lt zero64 x)) (sym (sum-by weight (u .n) (replicate 512 zero64)))
+      (never-refused weight (u .n) i few each-in inside own-weight)
 
 -- ---- the same for coordinates given as a list: n pairs, all finite
 abbrev pub everyFinite : List Float → Bool
@@ -66,6 +70,6 @@ at-finite (v ∷ vs) zero h k = and-l (finite v) (everyFinite vs) h
 at-finite (v ∷ vs) (suc j) h k = at-finite vs j (and-r (finite v) (everyFinite vs) h) (le-of-suc-le-suc k)
 
 pub weight-sum-of :
-    (d : Data) (k : GwrKernel) (i : ℕ) (b : Float) → T (everyFinite (d .coords)) → length (d .coords) ≡ 2 * d .n → i < d .n → d .n ≤ 512
-    → T (finite (weightsAt d k i b .1)) × T (lt zero64 (weightsAt d k i b .1))
-weight-sum-of d k i b h e inside few = weight-sum d k i b (λ j l. at-finite (d .coords) j h (lt-of-lt-of-le l (le-of-eq (sym e)))) inside few
+    (u : Setup) (d : Data) (i : ℕ) (b : Float) → T (everyFinite (d .coords)) → length (d .coords) ≡ 2 * u .n → i < u .n → u .n ≤ 512
+    → T (finite (weightsAt u d i b .1)) × T (lt zero64 (weightsAt u d i b .1))
+weight-sum-of u d i b h e inside few = weight-sum u d i b (λ j l. at-finite (d .coords) j h (lt-of-lt-of-le l (le-of-eq (sym e)))) inside few

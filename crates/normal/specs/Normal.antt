@@ -8,7 +8,6 @@ use lib.Dec.{ltb}
 use lib.Ieee.{Float, nan, binary64, add, mul, eq, ofBits}
 use Rattle.real.specs.Fold.{range}
 use Rattle.real.specs.Reals.{zero64, one64}
-use Rattle.setup.specs.Data.{Data}
 
 -- the cells of a row
 abbrev pub Row : Type 0
@@ -56,11 +55,6 @@ normalStep x y w p j s =
 -- `for j in 0..n`, whole, from the equations s: predictors x, responses y, weights w
 unfoldable pub normalEquations : List Float → List Float → List Float → ℕ → ℕ → Equations → Equations
 normalEquations x y w n p s = range (normalStep x y w p) 0 n s
-
--- the normal equations of the data under the weights w, from zeros: the upper triangle of A = XᵀWX, and XᵀWy
-unfoldable pub normalOf : Data → List Float → Equations
-normalOf d w =
-    normalEquations (d .predictors) (d .responses) w (d .n) (d .p) (replicate 8 (replicate 8 zero64), replicate 8 zero64)
 
 -- `a[[q, p]] = a[[p, q]]` for q above p: the cell of the symmetric matrix of which a is the upper triangle
 unfoldable pub mirroredCell : Matrix → ℕ → ℕ → Float

@@ -7,6 +7,7 @@ use Rattle.real.specs.Fold.{range}
 use Rattle.real.specs.Reals.{zero64}
 use Rattle.kernel.specs.declared.GwrKernel.{GwrKernel}
 use Rattle.kernel.specs.Weight.{weightOf, distanceOf}
+use Rattle.setup.specs.declared.Setup.{Setup}
 use Rattle.setup.specs.Data.{Data}
 
 -- `*w = kw; weight_sum += kw;` for observation j, whose weight is v j
@@ -22,10 +23,10 @@ unfoldable pub weightFrom : List Float → Float → Float → GwrKernel → Flo
 weightFrom coords east north k b j =
     weightOf k (distanceOf east north (getD coords (2 * j) nan) (getD coords (2 * j + 1) nan)) b
 
--- `weights` and `weight_sum` seen from location i; places past observation n - 1 are zero
-unfoldable pub weightsAt : Data → GwrKernel → ℕ → Float → List Float × Float
-weightsAt d k i b =
-    weightsBy
-    (weightFrom (d .coords) (getD (d .coords) (2 * i) nan) (getD (d .coords) (2 * i + 1) nan) k b)
-    (d .n)
-    (replicate 512 zero64)
+-- `weights` and `weight_sum` seen from a place; numbers past observation n - 1 are zero
+unfoldable pub weightsFrom : Setup → Data → Float → Float → Float → List Float × Float
+weightsFrom u d east north b = weightsBy (weightFrom (d .coords) east north (u .options .kernel) b) (u .n) (replicate 512 zero64)
+
+-- seen from location i
+abbrev pub weightsAt : Setup → Data → ℕ → Float → List Float × Float
+weightsAt u d i b = weightsFrom u d (getD (d .coords) (2 * i) nan) (getD (d .coords) (2 * i + 1) nan) b

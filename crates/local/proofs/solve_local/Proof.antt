@@ -5,14 +5,14 @@ use mathlib.Core.List.{List}
 use native.Mathlib.Omega.{arith}
 use lib.ListN.{length}
 use lib.Ieee.{Float}
-use Rattle.normal.specs.Weights.{weightsAt}
+use Rattle.normal.specs.Weights.{weightsFrom}
 use Rattle.local.specs.Solve.{solveLocal}
 use Rattle.local.proofs.Lengths.{weights-long}
 use Rattle.local.proofs.solve_local.Statement.{statement}
 use Rattle.local.proofs.solve_local.Tie as tie
 
 pub solve-local-spec : {M : Type 1} → statement M
-unfolding weightsAt solveLocal
+unfolding weightsFrom solveLocal
 solve-local-spec =
     tie.close
     (tie.spec
