@@ -47,3 +47,14 @@ module _ {S : Type 0} (f : ℕ → S → S) (a : ℕ) (s : S) where
   pub front : (b : ℕ) → a < b → range f a b s ≡ range f (a + 1) b (f a s)
   unfolding range
   front b h = let k : b - a ≡ suc (b - (a + 1)) = omega arith in rw k (turns-front (b - (a + 1)))
+
+-- what holds between two starts and is kept by each pair of turns holds between the two folds
+module _ {S T : Type 0} (f : ℕ → S → S) (g : ℕ → T → T) (a b : ℕ) (R : S → T → Type 0) (keep : (k : ℕ) (s : S) (t : T) → k < b → R s t → R (f k s) (g k t)) where
+  related-turns : (n : ℕ) (s : S) (t : T) → a + n ≤ b → R s t → R (turns f a n s) (turns g a n t)
+  unfolding turns
+  related-turns zero s t h r = r
+  related-turns (suc n) s t h r = keep (a + n) _ _ (omega arith) (related-turns n s t (omega arith) r)
+
+  pub related : (s : S) (t : T) → a ≤ b → R s t → R (range f a b s) (range g a b t)
+  unfolding range
+  related s t h r = related-turns (b - a) s t (omega arith) r
