@@ -9,9 +9,9 @@ use lib.Ieee.{Float}
 use Rattle.real.specs.Reals.{zero64}
 use Rattle.wire.specs.Wire.{bitsOf, bytesOf, loadOf, reals, placed}
 use Rattle.wire.proofs.Numbers.{length-bytesOf, load-stored}
-use Rattle.refusal.specs.Numbers.{refusalNumber}
+use Rattle.refusal.proofs.Range.{mostNumber, numbered}
 use Rattle.refusal.specs.declared.Refusal.{Refusal}
-use Rattle.refusal.specs.declared.Refusal.the-variants.{NoCoordinates, OddCoordinates, TooManyObservations, TooManyPredictors, PredictorLength, ResponseLength, TooFewObservations, ResponseNotFinite, CoordinateNotFinite, PredictorNotFinite, UnusableDistance, NoDistanceRange, OutputTooShort, Singular, InverseNotFinite, CoefficientNotFinite, DeviationNotFinite, UnknownNumber, UnfitRecord, AlreadyEnded, LengthsDiffer}
+use Rattle.refusal.specs.declared.Refusal.the-variants.{UnknownNumber}
 use Rattle.criterion.specs.declared.Summary.{Summary}
 use Rattle.setup.specs.declared.GwrOptions.{GwrOptions}
 use Rattle.checks.specs.declared.Check.{Check}
@@ -26,34 +26,6 @@ use Rattle.calls.specs.declared.Choice.the-variants as choice
 use Rattle.calls.specs.Options.{optionsOf}
 use Rattle.calls.specs.Calls.{After, refused, summaryBytes, written, answerBytes, fitted, fitParts, checked, chosenBytes, fitBytes, byteTests, roomOf}
 use Rattle.calls.proofs.Bounds.{Wrote, Sound, sound}
-
-pub record Ranged (n : ℕ) : Type 0 where
-  pub some : 1 ≤ n
-  pub most : n ≤ 21
-
--- a refusal's number is from 1 to 21
-pub refusal-ranged : (r : Refusal) → Ranged (refusalNumber r)
-refusal-ranged NoCoordinates = record { some = omega arith; most = omega arith }
-refusal-ranged OddCoordinates = record { some = omega arith; most = omega arith }
-refusal-ranged TooManyObservations = record { some = omega arith; most = omega arith }
-refusal-ranged TooManyPredictors = record { some = omega arith; most = omega arith }
-refusal-ranged PredictorLength = record { some = omega arith; most = omega arith }
-refusal-ranged ResponseLength = record { some = omega arith; most = omega arith }
-refusal-ranged TooFewObservations = record { some = omega arith; most = omega arith }
-refusal-ranged ResponseNotFinite = record { some = omega arith; most = omega arith }
-refusal-ranged CoordinateNotFinite = record { some = omega arith; most = omega arith }
-refusal-ranged PredictorNotFinite = record { some = omega arith; most = omega arith }
-refusal-ranged UnusableDistance = record { some = omega arith; most = omega arith }
-refusal-ranged NoDistanceRange = record { some = omega arith; most = omega arith }
-refusal-ranged OutputTooShort = record { some = omega arith; most = omega arith }
-refusal-ranged Singular = record { some = omega arith; most = omega arith }
-refusal-ranged InverseNotFinite = record { some = omega arith; most = omega arith }
-refusal-ranged CoefficientNotFinite = record { some = omega arith; most = omega arith }
-refusal-ranged DeviationNotFinite = record { some = omega arith; most = omega arith }
-refusal-ranged UnknownNumber = record { some = omega arith; most = omega arith }
-refusal-ranged UnfitRecord = record { some = omega arith; most = omega arith }
-refusal-ranged AlreadyEnded = record { some = omega arith; most = omega arith }
-refusal-ranged LengthsDiffer = record { some = omega arith; most = omega arith }
 
 -- the solve count that a summary's bytes hold
 pub summary-solves : (s : List ℕ) (v : Summary) → v .solves < 2 ^ 64 → loadOf (placed s 0 (summaryBytes v)) 16 ≡ v .solves
@@ -70,14 +42,14 @@ summary-solves s v h =
     ap (λ (l : List ℕ). loadOf l 16) (shape ∙ ap (λ (l : List ℕ). l ++ (three ++ rest)) front)
     ∙ load-stored (one ++ two) 16 (v .solves) rest (omega (arith, long)) h
 
--- the number is at most 21; where it is 0, the solve count is at most 512·103
+-- the number is 0 or a refusal's, which is at most mostNumber; where it is 0, the solve count is at most 512·103
 pub record Answered (a : After) : Type 0 where
-  pub number : a .0 ≤ 21
+  pub number : a .0 ≤ mostNumber
   pub solves : a .0 ≡ 0 → loadOf (a .1 .1) 16 ≤ 52736
 
 answered-refused : (r : Refusal) (out summary : List ℕ) → Answered (refused r out summary)
 answered-refused r out summary =
-    let k = refusal-ranged r in
+    let k = numbered r in
     record { number = k .most; solves = λ z. absurd (omega (arith, k .some, z)) }
 
 answered-written : (a : FitAnswer) (room : ℕ) (rows : List Float) (out summary : List ℕ) → Wrote a room → Answered (answerBytes a rows out summary)
@@ -85,10 +57,10 @@ unfolding written
 answered-written (Fitted v) room rows out summary w =
     record { number = omega arith; solves = λ z. omega (arith, w .1, summary-solves summary v (omega (arith, w .1))) }
 answered-written (Failed r v) room rows out summary w =
-    let k = refusal-ranged r in
+    let k = numbered r in
     record { number = k .most; solves = λ z. absurd (omega (arith, k .some, z)) }
 answered-written (Rejected r) room rows out summary w =
-    let k = refusal-ranged r in
+    let k = numbered r in
     record { number = k .most; solves = λ z. absurd (omega (arith, k .some, z)) }
 
 answered-parts : (coords x y : List ℕ) (n p : ℕ) (o : GwrOptions) (out summary : List ℕ) → Answered (fitParts coords x y n p o out summary)

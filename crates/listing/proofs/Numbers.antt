@@ -22,7 +22,8 @@ use Rattle.calls.specs.declared.Choice.{Choice}
 use Rattle.calls.specs.declared.Choice.the-variants as choice
 use Rattle.calls.specs.Options.{optionsOf}
 use Rattle.calls.specs.Calls.{After, partTests, byteTests, roomOf, summaryBytes, written, answerBytes, fitted, fitParts, checked, chosenBytes, fitBytes}
-use Rattle.calls.proofs.Counts.{refusal-ranged, summary-solves}
+use Rattle.refusal.proofs.Range.{numbered}
+use Rattle.calls.proofs.Counts.{summary-solves}
 use Rattle.listing.specs.declared.Head.{Head}
 use Rattle.listing.specs.Jobs.{placesEnd, predictorsEnd, responsesEnd, answerText, fitOfParts, wholeText}
 use Rattle.listing.specs.Numbers.{coordinatesIn, predictorsIn, responsesIn, fitIn, rowsIn, fitText}
@@ -160,8 +161,8 @@ module _ (n width : ℕ) (w : List Float) (out summary : List ℕ) (long : lengt
       sym (listing-text (answerBytes (Fitted v) (take (rows * width) w) out summary) n width (omega arith))
       ∙ listing-same _ _ _ _ _ _ _ _ (ap bitsText (bandwidth-low v summary) ∙ bits-low (bitsOf (v .bandwidth))) (ap bitsText (aicc-low v summary) ∙ bits-low (bitsOf (v .aicc))) (summary-solves summary v (h .1))
       (ap (λ (l : List Float). rowLines 0 (rowsOf (placed out 0 (realBytes l)) width n)) e ∙ rows-text w out width n (omega arith))
-  answer-text (Failed r v) rows h = sym (refused-text (answerBytes (Failed r v) (take (rows * width) w) out summary) n width (refusal-ranged r .some))
-  answer-text (Rejected r) rows h = sym (refused-text (answerBytes (Rejected r) (take (rows * width) w) out summary) n width (refusal-ranged r .some))
+  answer-text (Failed r v) rows h = sym (refused-text (answerBytes (Failed r v) (take (rows * width) w) out summary) n width (numbered r .some))
+  answer-text (Rejected r) rows h = sym (refused-text (answerBytes (Rejected r) (take (rows * width) w) out summary) n width (numbered r .some))
 
 -- ---- the fit of whole parts
 

@@ -10,6 +10,7 @@ use lib.ListN.{length, take, drop, replicate, length-append, length-drop}
 use lib.Seq.{take-all}
 use Rattle.wire.specs.Wire.{loadOf, placed}
 use Rattle.text.specs.Listing.{refusedLine, listing, rowsOf, Written}
+use Rattle.refusal.proofs.Range.{numbered}
 use Rattle.refusal.specs.Numbers.{refusalNumber}
 use Rattle.refusal.specs.declared.Refusal.{Refusal}
 use Rattle.refusal.specs.declared.Refusal.the-variants.{NoCoordinates, UnknownNumber}
@@ -21,7 +22,7 @@ use Rattle.calls.specs.declared.Choice.{Choice}
 use Rattle.calls.specs.declared.Choice.the-variants as choice
 use Rattle.calls.specs.Options.{optionsOf}
 use Rattle.calls.specs.Calls.{After, fitBytes}
-use Rattle.calls.proofs.Counts.{Answered, answered, refusal-ranged}
+use Rattle.calls.proofs.Counts.{Answered, answered}
 use Rattle.listing.specs.declared.Head.{Head}
 use Rattle.listing.specs.declared.Header.{Header}
 use Rattle.listing.specs.declared.Header.the-variants.{Whole, Refused}
@@ -81,7 +82,7 @@ pub line-is : (d₀ line line' d : List ℕ) (end : ℕ) → Written d₀ 0 line
 line-is d₀ line line' d end h e = subst (λ (l : List ℕ). Written d₀ 0 l d end) e h
 
 pub number-small : (r : Refusal) (n : ℕ) → n ≡ refusalNumber r → n < 1000000
-number-small r n e = omega (arith, refusal-ranged r .most, e)
+number-small r n e = omega (arith, numbered r .most, e)
 
 pub refused-text : (a : After) (n width : ℕ) → 0 < a .0 → refusedLine (a .0) ≡ answerText a n width
 unfolding answerText

@@ -102,7 +102,7 @@ fn print_answer(
     width: usize,
     text: &mut [u8],
 ) -> usize
-    requires { ⌜ (number ≤ 21) × (n ≤ 512) × (width ≤ 11) × (8 * (n * width) ≤ length (now out)) × (24 ≤ length (now summary)) × (102400 ≤ length (now text)) ⌝ }
+    requires { ⌜ (number < 1000000) × (n ≤ 512) × (width ≤ 11) × (8 * (n * width) ≤ length (now out)) × (24 ≤ length (now summary)) × (102400 ≤ length (now text)) ⌝ }
     requires { ⌜ (number ≡ 0 → loadOf (now summary) 16 ≤ 52736) ⌝ }
     ensures { λ r. ⌜ Written (now (text .entry)) 0 (answerText (number, (now (out .entry), now (summary .entry))) n width) (now (text .exit)) r ⌝ }
 {

@@ -147,10 +147,13 @@ pub fn same_job(a: Job, b: Job) -> bool {
     )
 }
 
-// An answer's number: 0 for ended, 99 for working, and else the refusal's.
+// What stands for working among the numbers of answers: beyond every refusal's.
+pub const WORKING: u32 = 100;
+
+// An answer's number: 0 for ended, WORKING, and else the refusal's.
 pub fn answer_number(a: Answer) -> u32 {
     match a {
-        Answer::Working => 99,
+        Answer::Working => WORKING,
         Answer::Ended(_) => 0,
         Answer::Failed(r, _) => r.number(),
         Answer::Refused(r) => r.number(),

@@ -29,7 +29,7 @@ print-whole-spec =
     (λ c. search needs)
     (λ c κs. search needs)
     (λ c. search needs)
-    (λ c κs. let a = fit-answered _ _ _ _ _ _ _ _ _ _ (c .before .before .before .before .before .before .before .fit-bytes .ensures) in let m : c .before .before .before .before .before .before .before .before .before .before .before .before .before .before .before .before .before .args .h .p + 4 ≤ 11 = omega arith in ((a .number, search needs, m, omega (arith, mul-le-mul (c .before .before .before .before .before .before .before .before .before .before .before .before .before .before .before .before .before .pre .0 .0) m, c .before .before .before .before .before .before .before .fit-bytes .kept .1 .1 .1 .1 .1 .1 .1 .0), omega (arith, c .before .before .before .before .before .before .before .fit-bytes .kept .1 .1 .1 .1 .1 .1 .1 .1 .0), search needs), a .solves))
+    (λ c κs. let a = fit-answered _ _ _ _ _ _ _ _ _ _ (c .before .before .before .before .before .before .before .fit-bytes .ensures) in let m : c .before .before .before .before .before .before .before .before .before .before .before .before .before .before .before .before .before .args .h .p + 4 ≤ 11 = omega arith in ((omega (arith, a .number), search needs, m, omega (arith, mul-le-mul (c .before .before .before .before .before .before .before .before .before .before .before .before .before .before .before .before .before .pre .0 .0) m, c .before .before .before .before .before .before .before .fit-bytes .kept .1 .1 .1 .1 .1 .1 .1 .0), omega (arith, c .before .before .before .before .before .before .before .fit-bytes .kept .1 .1 .1 .1 .1 .1 .1 .1 .0), search needs), a .solves))
     (λ c. search needs)
     (λ c. search needs)
     (λ c. search needs)
