@@ -19,9 +19,10 @@ use Rattle.checks.specs.declared.Check.{Check}
 use Rattle.checks.specs.declared.Check.the-variants as check
 use Rattle.checks.specs.Judge.{judge}
 use Rattle.gwr.specs.declared.FitAnswer.{FitAnswer}
-use Rattle.gwr.specs.declared.FitAnswer.the-variants.{Fitted, Failed, Rejected}
+use Rattle.sweep.specs.declared.Finish.the-variants.{Fitted, Failed}
+use Rattle.gwr.specs.declared.FitAnswer.the-variants.{Done, Rejected}
 use Rattle.gwr.specs.declared.Fit.{Fit}
-use Rattle.gwr.specs.Fit.{fitOf}
+use Rattle.gwr.specs.Fit.{gwrFit}
 use Rattle.calls.specs.declared.KernelChoice.{KernelChoice}
 use Rattle.calls.specs.declared.KernelChoice.the-variants as kernel
 use Rattle.calls.specs.declared.Choice.{Choice}
@@ -49,6 +50,10 @@ roomOf n p out summary = cond (ltb summary 24) 0 (cond (ltb out (8 * (n * (p + 4
 
 -- ---- the fit
 
+-- the numbers that the bytes of coordinates, predictors and responses are, of p predictors; n is a sixteenth of the coordinates' bytes
+abbrev pub numbersOf : List ℕ → List ℕ → List ℕ → ℕ → Data
+numbersOf coords x y p = let n = length coords / 16 in dataOf (reals coords (2 * n)) (reals x (n * p)) (reals y n)
+
 -- a refusal's number or 0, the output and the summary after the call
 abbrev pub After : Type 0
 After = ℕ × (List ℕ × List ℕ)
@@ -62,13 +67,13 @@ unfoldable pub summaryBytes : Summary → List ℕ
 summaryBytes v = bytesOf (bitsOf (v .bandwidth)) ++ (bytesOf (bitsOf (v .aicc)) ++ bytesOf (v .solves))
 
 -- rows and summary over the front of the bytes lent for them
-unfoldable pub written : ℕ → List Float → Summary → List ℕ → List ℕ → After
-written number rows v out summary = (number, (placed out 0 (realBytes rows), placed summary 0 (summaryBytes v)))
+unfoldable pub placedRows : ℕ → List Float → Summary → List ℕ → List ℕ → After
+placedRows number rows v out summary = (number, (placed out 0 (realBytes rows), placed summary 0 (summaryBytes v)))
 
 -- a refusal met while solving keeps the rows before it
 abbrev pub answerBytes : FitAnswer → List Float → List ℕ → List ℕ → After
-answerBytes (Fitted v) rows out summary = written 0 rows v out summary
-answerBytes (Failed r v) rows out summary = written (refusalNumber r) rows v out summary
+answerBytes (Done (Fitted v)) rows out summary = placedRows 0 rows v out summary
+answerBytes (Done (Failed r v)) rows out summary = placedRows (refusalNumber r) rows v out summary
 answerBytes (Rejected r) rows out summary = refused r out summary
 
 -- a fit's answer, with as many rows of p + 4 numbers as it says
@@ -79,7 +84,7 @@ fitted p f out summary = answerBytes (f .0 .answer) (take (f .0 .rows * (p + 4))
 unfoldable pub fitParts : List ℕ → List ℕ → List ℕ → ℕ → ℕ → GwrOptions → List ℕ → List ℕ → After
 fitParts coords x y n p o out summary =
     fitted p
-    (fitOf (reals coords (2 * n)) (reals x (n * p)) (reals y n) p o (replicate (roomOf n p (length out) (length summary)) zero64))
+    (gwrFit (numbersOf coords x y p) p o (replicate (roomOf n p (length out) (length summary)) zero64))
     out summary
 
 abbrev pub checked : Check → After → List ℕ → List ℕ → After
@@ -114,6 +119,27 @@ weightWith (kernel.Known k) d b out = weightRoom (weighed k (realOf d) (realOf b
 unfoldable pub weightBytes : ℕ → ℕ → ℕ → List ℕ → ℕ × List ℕ
 weightBytes kernel d b out = weightWith (kernelOf kernel) d b out
 
+-- ---- the lists of tests of both calls
+
+-- 01's order for the fit call: 18, 1 to 6 of bytes, 7, 8 to 10, 13 of the bytes lent for output and summary, 11, 12
+abbrev pub callTests : List ℕ → List ℕ → List ℕ → ℕ → ℕ → ℕ → ℕ → ℕ → ℕ → List (Bool × Refusal)
+callTests coords x y p kernel kind bandwidth out summary =
+    let n = length coords / 16 in
+    let c = optionsOf kernel kind bandwidth in
+    let d = numbersOf coords x y p in
+    (isUnknown c, UnknownNumber)
+    ∷ (byteTests (length coords) (length x) (length y) p
+    ++ ((ltb n (p + 1), TooFewObservations)
+    ∷ (valueTests d ++ ((ltb out (8 * (n * (p + 4))) || ltb summary 24, OutputTooShort) ∷ optionTests (setupOf d p (named c)) d))))
+
+-- a distance that is NaN or negative
+abbrev pub distanceTests : Float → List (Bool × Refusal)
+distanceTests d = (not (le zero64 d), CoordinateNotFinite) ∷ []
+
+-- 01's order for the weight call: 18, 13, 9
+abbrev pub weightTests : ℕ → ℕ → ℕ → List (Bool × Refusal)
+weightTests kernel d out = (ltb 2 kernel, UnknownNumber) ∷ (ltb out 8, OutputTooShort) ∷ distanceTests (realOf d)
+
 -- ---- what the code's parts need
 
 -- room for what an answer writes: `count` of `rows` numbers, and the summary
@@ -123,8 +149,7 @@ pub record Writable (count rows out summary : ℕ) : Type 0 where
   pub whole : 24 ≤ summary
 
 abbrev pub Roomy : FitAnswer → ℕ → ℕ → ℕ → ℕ → Type 0
-Roomy (Fitted v) count rows out summary = Writable count rows out summary
-Roomy (Failed r v) count rows out summary = Writable count rows out summary
+Roomy (Done f) count rows out summary = Writable count rows out summary
 Roomy (Rejected r) count rows out summary = Unit
 
 -- a part of a buffer that the fit may write: its bytes have room in the output, and none is offered without the summary's 24

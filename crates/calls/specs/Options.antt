@@ -8,6 +8,7 @@ use Rattle.kernel.specs.declared.GwrKernel.the-variants.{Gaussian, Bisquare, Ex
 use Rattle.setup.specs.declared.GwrBandwidth.{GwrBandwidth}
 use Rattle.setup.specs.declared.GwrBandwidth.the-variants.{Fixed, AdaptiveKnn}
 use Rattle.setup.specs.declared.GwrOptions.{GwrOptions}
+use Rattle.setup.specs.Options.{defaultOptions}
 use Rattle.calls.specs.declared.KernelChoice.{KernelChoice}
 use Rattle.calls.specs.declared.KernelChoice.the-variants as kernel
 use Rattle.calls.specs.declared.Choice.{Choice}
@@ -40,3 +41,13 @@ optionsWith kernel.Unknown kind bandwidth = choice.Unknown
 -- the options of a kernel's number, a kind's number and a bandwidth's bits or count
 unfoldable pub optionsOf : ℕ → ℕ → ℕ → Choice
 optionsOf number kind bandwidth = optionsWith (kernelOf number) kind bandwidth
+
+-- whether 18 is owed
+abbrev pub isUnknown : Choice → Bool
+isUnknown (choice.Known o) = false
+isUnknown choice.Unknown = true
+
+-- the options that numbers name; where 18 is owed, any
+abbrev pub named : Choice → GwrOptions
+named (choice.Known o) = o
+named choice.Unknown = defaultOptions

@@ -24,7 +24,7 @@ rowsAt (Ended c) n i = rowsEnded c n i
 
 -- how many rows, and how many numbers at the front of the output
 abbrev pub writtenRows : Job → ℕ
-writtenRows j = rowsAt (j .stage) (j .setup .n) (j .location)
+writtenRows j = rowsAt (j .stage) (j .setup .n) (j .sweep .location)
 
 abbrev pub written : Job → ℕ
 written j = writtenRows j * (j .setup .p + 4)

@@ -22,10 +22,6 @@ use Rattle.listing.specs.declared.Header.the-variants.{Whole, Refused}
 abbrev pub headOf : List ℕ → Head
 headOf s = record { n = loadOf s 0; p = loadOf s 8; kernel = loadOf s 16; kind = loadOf s 24; bandwidth = loadOf s 32 }
 
-abbrev pub isUnknown : Choice → Bool
-isUnknown (choice.Known o) = false
-isUnknown choice.Unknown = true
-
 -- 01: n of 0 or over 512 and p over 7 are refused before reading on
 unfoldable pub sizeTests : ℕ → ℕ → List (Bool × Refusal)
 sizeTests n p = (eqb n 0, NoCoordinates) ∷ (ltb 512 n, TooManyObservations) ∷ (ltb 7 p, TooManyPredictors) ∷ []
