@@ -12,7 +12,7 @@ use Rattle.checks.specs.Judge.{judge, ruled, FirstOf, NoneOf, Decides}
 
 -- ---- what a check leads to
 
-module _ {A : Type 0} {refuse : Refusal → A} {given : A} {k : Check} where
+module _ {A : Type 0} (refuse : Refusal → A) (given : A) {k : Check} where
   pub ruled-refused : {r : Refusal} → k ≡ Refused r → ruled k refuse given ≡ refuse r
   unfolding ruled
   ruled-refused e = ap (λ (c : Check). ruled c refuse given) e
@@ -45,7 +45,7 @@ judge-append l m = sym (ruled-itself (judge (l ++ m))) ∙ ruled-append Refused 
 
 -- ---- entry by entry
 
-module _ {b : Bool} {r : Refusal} {l : List (Bool × Refusal)} where
+module _ {b : Bool} (r : Refusal) (l : List (Bool × Refusal)) where
   -- a test that holds refuses
   pub first-here : b ≡ true → FirstOf ((b, r) ∷ l) r
   unfolding judge
@@ -62,18 +62,15 @@ none-head true r l h = (cc, cc)
 none-head false r l h = (refl, h)
 
 pub none-append : (l m : List (Bool × Refusal)) → NoneOf (l ++ m) → NoneOf l × NoneOf m
-none-append [] m h = (refl-pass, h)
-  where
-    refl-pass : NoneOf []
-    unfolding judge
-    refl-pass = refl
+unfolding judge
+none-append [] m h = (refl, h)
 none-append (t ∷ l) m h =
     let a = none-head (t .0) (t .1) (l ++ m) h in
     let b = none-append l m (a .1) in
-    (judge-rest (a .0) ∙ b .0, b .1)
+    (judge-rest (t .1) l (a .0) ∙ b .0, b .1)
 
 pub append-none : (l m : List (Bool × Refusal)) → NoneOf l → NoneOf m → NoneOf (l ++ m)
-append-none l m h k = judge-append l m ∙ ruled-pass h ∙ k
+append-none l m h k = judge-append l m ∙ ruled-pass Refused (judge m) h ∙ k
 
 -- ---- the first that holds
 
@@ -98,7 +95,7 @@ first-splits ((false, s) ∷ l) r h =
     record { before = (false, s) ∷ f .before; behind = f .behind; is = ap (λ (m : List (Bool × Refusal)). (false, s) ∷ m) (f .is); none = f .none }
 
 pub first-stands : {l : List (Bool × Refusal)} {r : Refusal} → First l r → FirstOf l r
-first-stands {l} {r} f = ap judge (f .is) ∙ judge-append (f .before) ((true, r) ∷ f .behind) ∙ ruled-pass (f .none) ∙ first-here refl
+first-stands {l} {r} f = ap judge (f .is) ∙ judge-append (f .before) ((true, r) ∷ f .behind) ∙ ruled-pass Refused _ (f .none) ∙ first-here r (f .behind) refl
 
 -- ---- every list is decided, one way
 
@@ -109,7 +106,7 @@ decided l = go (judge l) refl
     go Pass e = inr e
     go (Refused r) e = inl (r, e)
 
-module _ {l : List (Bool × Refusal)} where
+module _ (l : List (Bool × Refusal)) where
   pub first-none : {r : Refusal} → FirstOf l r → NoneOf l → ⊥
   first-none h n = pass-refused (sym n ∙ h)
 
@@ -117,5 +114,5 @@ module _ {l : List (Bool × Refusal)} where
   first-first h k = refused-one (sym h ∙ k)
 
 -- a call whose answer goes by the list
-pub decides : {A : Type 0} {answer given : A} {refuse : Refusal → A} (l : List (Bool × Refusal)) → answer ≡ ruled (judge l) refuse given → Decides l (λ (r : Refusal). answer ≡ refuse r) (answer ≡ given)
-decides l e = record { refused = λ r h. e ∙ ruled-refused h; served = λ h. e ∙ ruled-pass h }
+pub decides : {A : Type 0} {refuse : Refusal → A} {given answer : A} (l : List (Bool × Refusal)) → answer ≡ ruled (judge l) refuse given → Decides l (λ (r : Refusal). answer ≡ refuse r) (answer ≡ given)
+decides {refuse = f} {given = a} l e = record { refused = λ r h. e ∙ ruled-refused f a h; served = λ h. e ∙ ruled-pass f a h }
