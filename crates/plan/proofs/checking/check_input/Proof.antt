@@ -1,10 +1,9 @@
 -- `plan::check_input` meets its contract: the three lists one after the other.
 use borrow.Author.Needs.{needs}
 use mathlib.Core.Path.{sym, _∙_}
-use Rattle.setup.specs.Options.{defaultOptions}
 use Rattle.setup.specs.Data.{dataOf}
 use Rattle.checks.proofs.Judge.{ruled-refused, ruled-pass}
-use Rattle.plan.proofs.Accepted.{shape-shaped, input-is}
+use Rattle.plan.proofs.Accepted.{shape-counts, input-is}
 use Rattle.plan.proofs.checking.check_input.Statement.{statement}
 use Rattle.plan.proofs.checking.check_input.Tie as tie
 
@@ -27,7 +26,7 @@ enum-told-2 : tie.Need-enum-told-2
 enum-told-2 c = search needs
 
 check-output-requires : tie.Need-check-output-requires
-check-output-requires c κs = let s = shape-shaped (dataOf _ _ _) _ defaultOptions (sym (c .before .before .before .before .before .check-shape .ensures) ∙ c .before .before .before .enum-told .given .1) .sized in (s .few, s .narrow)
+check-output-requires c κs = let s = shape-counts _ _ _ _ (sym (c .before .before .before .before .before .check-shape .ensures) ∙ c .before .before .before .enum-told .given .1) in (s .few, s .narrow)
 
 returns : tie.Need-returns
 returns c = sym (input-is (dataOf _ _ _) _ _ ∙ ruled-refused _ _ (sym (c .before .before .before .check-shape .ensures) ∙ c .before .shape .given .1))
