@@ -1,3 +1,5 @@
 pub mod Fold
 pub mod Reals
 pub mod Fractions
+pub mod Arithmetic
+pub mod Matrix
