@@ -6,17 +6,17 @@ use lib.Ieee.{Float, nan, inf, fin, binary64, sub, mul, lt, le, ofBits, fits, is
 use lib.Ieee.Bits.{is-true, is-false}
 use lib.Ieee.Fits.{add-fits, mul-fits, and-l, and-r}
 use lib.Ieee.Scale.{finite}
-use Rattle.real.specs.Reals.{zero64}
+use Rattle.real.specs.Reals.{zero64, inf64}
 use Rattle.real.proofs.Values.{untrue}
 use Rattle.real.proofs.SignedOrder.{nonneg, le-tr, nlt→le}
-use Rattle.root.specs.Root.{root, inf64}
+use Rattle.root.specs.Root.{root}
 use Rattle.kernel.specs.declared.GwrKernel.{GwrKernel}
 use Rattle.kernel.specs.declared.GwrKernel.the-variants.{Gaussian, Bisquare, Exponential}
 use Rattle.kernel.specs.Weight.{squaresOf, distanceOf, unusable, bisquareWeight, weightOf}
 use Rattle.kernel.specs.Reach.{bisquareReach, reachOf, Reach}
 use Rattle.kernel.proofs.DistanceRange.{square-nonneg}
 use Rattle.kernel.proofs.WeightRange.{usable-of}
-use Rattle.kernel.proofs.RootOrder.{not-both, either, root-ends, and-false, root-order}
+use Rattle.root.proofs.Order.{not-both, either, root-ends, and-false, root-order}
 
 pub squares-fits : (ax ay bx by : Float) → T (fits binary64 (squaresOf ax ay bx by))
 unfolding squaresOf

@@ -1,8 +1,8 @@
--- `root::one_if_below` meets its contract.
+-- `root::settling::one_if_below` meets its contract.
 use mathlib.Core.Path.{sym}
 use Rattle.root.proofs.Squares.{is-one, is-none}
-use Rattle.root.proofs.one_if_below.Statement.{statement}
-use Rattle.root.proofs.one_if_below.Tie as tie
+use Rattle.root.proofs.settling.one_if_below.Statement.{statement}
+use Rattle.root.proofs.settling.one_if_below.Tie as tie
 
 pub one-if-below-spec : {M : Type 1} → statement M
 one-if-below-spec =

@@ -1,9 +1,9 @@
--- `root::rounded` meets its contract: q rises where what is left is more than q.
+-- `root::plain::rounded` meets its contract: q rises where what is left is more than q.
 use borrow.Author.Needs.{needs}
 use native.Mathlib.Omega.{arith}
 use Rattle.root.proofs.Squares.{rises, stays}
-use Rattle.root.proofs.rounded.Statement.{statement}
-use Rattle.root.proofs.rounded.Tie as tie
+use Rattle.root.proofs.plain.rounded.Statement.{statement}
+use Rattle.root.proofs.plain.rounded.Tie as tie
 
 -- src/lib.rt:77:22
 add-result : tie.Need-add-result

@@ -1,23 +1,50 @@
 -- The square root keeps the order of the numbers from 0 up, infinity included, and of two binary64 there that are at most one another there is one. Assumes nothing.
 use mathlib.Core.Path.{_≡_, refl, sym, ap, _∙_, subst}
-use mathlib.Core.Bool.{Bool, true, false, not, _&&_}
+use mathlib.Core.Bool.{Bool, true, false, not, _&&_, cond}
 use Prim.Native.Nat.{ℕ, _+_, _-_, _*_, _/_, _^_, _≤_, _<_}
 use native.Mathlib.Nat.{mul-comm, mul-assoc, mul-right-comm, mul-one, zero-mul, mul-pos, mul-lt-mul-of-pos-right, mul-le-mul-left, lt-of-lt-of-le, lt-of-le-of-lt, lt-irrefl, le-of-eq, le-antisymm}
 use native.Mathlib.Omega.{arith}
-use lib.IntN.{ℤ}
+use lib.IntN.{ℤ, pos}
 use lib.Dec.{T, T-not, ltb→lt, lt→ltb}
-use lib.Ieee.{Float, nan, inf, fin, binary64, up, down, size, lt, le, ofBits, toBits, fits, isNan}
+use lib.Ieee.{Float, nan, inf, fin, binary64, up, down, size, neg, lt, le, ofBits, toBits, fits, isNan}
 use lib.Ieee.Bits.{ofBits-toBits, is-true, is-false}
 use lib.Ieee.Fits.{up-pos, down-pos, and-l, and-r}
 use lib.Ieee.Nearest.{div-same}
 use lib.Ieee.Positive.{num, den, den-pos, positive, positive-finite}
-use Rattle.real.specs.Reals.{zero64}
+use Rattle.real.specs.Reals.{zero64, inf64}
 use Rattle.real.proofs.Values.{untrue}
-use Rattle.real.proofs.SignedOrder.{nonneg, le-tr, le→sle, nlt→le, lt-not-le, lt-of-not-le}
-use Rattle.root.specs.Root.{root, inf64}
-use Rattle.root.specs.Nearest.{unsigned, sumNum, NearestRoot}
-use Rattle.root.proofs.Nearest.{root-nearest, positive-unsigned, above-unsigned}
-use Rattle.kernel.proofs.DistanceRange.{nonneg-number, nonneg-above, not-below, root-nonneg}
+use Rattle.real.proofs.SignedOrder.{nonneg, units-nonneg, nat-above, le-tr, le→sle, nlt→le, lt-not-le, lt-of-not-le}
+use Rattle.root.specs.Root.{root, rootUnits, nearestRoot, inUnits}
+use Rattle.root.specs.Nearest.{unsigned, NearestRoot}
+use Rattle.root.proofs.Nearest.{root-nearest, not-below, sumNum, middle-low, middle-high, positive-unsigned, above-unsigned}
+
+-- ---- numbers from 0 up
+pub nonneg-number : (x : Float) → T (nonneg x) → T (not (isNan x)) × T (not (isNan (neg x)))
+unfolding isNan neg
+nonneg-number nan p = absurd p
+nonneg-number (inf s) p = (tt, tt)
+nonneg-number (fin s m e) p = (tt, tt)
+
+root-units-nonneg : (n : ℕ) → T (nonneg (rootUnits n))
+unfolding rootUnits
+root-units-nonneg n = let h = (size n + 1) / 2 in units-nonneg binary64 (nearestRoot (n * 2 ^ 106 / 4 ^ h)) (h + 484)
+
+pub root-nonneg : (x : Float) → T (nonneg x) → T (nonneg (root x))
+unfolding root ofBits
+root-nonneg x p =
+    subst (λ (b : Bool). T (nonneg (cond b nan (cond (lt (fin false 0 (pos 0)) x && lt x inf64) (rootUnits (inUnits x)) x)))) (sym (not-below x p))
+    (go (lt (fin false 0 (pos 0)) x && lt x inf64))
+  where
+    go : (b : Bool) → T (nonneg (cond b (rootUnits (inUnits x)) x))
+    go true = root-units-nonneg (inUnits x)
+    go false = p
+
+pub nonneg-above : (x : Float) → T (nonneg x) → T (le (fin false 0 (pos 0)) x)
+nonneg-above nan p = absurd p
+nonneg-above (inf true) p = absurd p
+nonneg-above (inf false) p = unfold le in tt
+nonneg-above (fin true m e) p = absurd p
+nonneg-above (fin false m e) p = nat-above (fin false m e) tt
 
 -- ---- less and at most
 pub not-both : (x y : Float) → T (lt x y) → T (le y x) → ⊥
@@ -100,13 +127,17 @@ module _ (x y : Float) (fx : T (fits binary64 x)) (fy : T (fits binary64 y)) whe
           let r = root x in
           let q = root y in
           let less : T (lt q r) = lt-of-not-le q r (positive-finite q (two .is-positive)) (positive-finite r (one .is-positive)) (T-not (le r q) f) in
-          let low = one .below q (two .held) (positive-unsigned q (two .is-positive)) less in
-          let high = two .above r (one .held) (positive-unsigned r (one .is-positive)) less in
+          let R = positive-unsigned r (one .is-positive) in
+          let Q = positive-unsigned q (two .is-positive) in
+          let X = above-unsigned x (is-true (lt zero64 x) a) (is-true (lt x inf64) b) in
+          let Y = above-unsigned y (is-true (lt zero64 y) c) (is-true (lt y inf64) d) in
+          let low = middle-low r q x R Q X (one .below q (two .held) Q less) in
+          let high = middle-high q r y Q R Y (two .above r (one .held) R less) in
           let turned : sumNum q r ≡ sumNum r q = omega arith in
           let scaled : den q * den r ≡ den r * den q = mul-comm (den q) (den r) in
           clash (sumNum r q * sumNum r q) (den r * den q * (den r * den q)) (num x) (den x) (num y) (den y) (den-pos x) (den-pos y) low
           (subst (λ (z : ℕ). 4 * num y * (z * z) < sumNum r q * sumNum r q * den y) scaled (subst (λ (z : ℕ). 4 * num y * (den q * den r * (den q * den r)) < z * z * den y) turned high))
-          (cross x y (above-unsigned x (is-true (lt zero64 x) a) (is-true (lt x inf64) b)) (above-unsigned y (is-true (lt zero64 y) c) (is-true (lt y inf64) d)) l)
+          (cross x y X Y l)
 
   -- the root keeps order
   pub root-order : T (nonneg x) → T (nonneg y) → T (le x y) → T (le (root x) (root y))

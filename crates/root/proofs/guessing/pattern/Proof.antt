@@ -1,8 +1,8 @@
--- `root::pattern` meets its contract.
-use Rattle.root.specs.Root.{patternOf}
+-- `root::guessing::pattern` meets its contract.
+use Rattle.root.specs.Guess.{patternOf}
 use Rattle.root.proofs.Patterns.{is-number}
-use Rattle.root.proofs.pattern.Statement.{statement}
-use Rattle.root.proofs.pattern.Tie as tie
+use Rattle.root.proofs.guessing.pattern.Statement.{statement}
+use Rattle.root.proofs.guessing.pattern.Tie as tie
 
 pub pattern-spec : {M : Type 1} → statement M
 unfolding patternOf
