@@ -12,7 +12,8 @@ use lib.Ieee.{Float, binary64, add, mul, neg, le, ofInt, round}
 use lib.Ieee.Fits.{and-l, and-r}
 use lib.Ieee.Scale.{finite}
 use Rattle.real.proofs.SignedOrder.{natural}
-use Rattle.exponent_table.specs.Reduction.{HI, LO, INV, one, half, nought, uncut, expK, expRest, twoToMinus}
+use Rattle.real.proofs.Closed.{one, half, nought}
+use Rattle.exponent_table.specs.Reduction.{HI, LO, INV, uncut, expK, expRest, twoToMinus}
 use Rattle.exponent_table.proofs.Tests.{allb, All, all→}
 
 -- 0.35
