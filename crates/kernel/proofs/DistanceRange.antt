@@ -92,7 +92,7 @@ squares-nonneg ax ay bx by p =
 
 module _ (ax ay bx by : Float) (fax : T (finite ax)) (fay : T (finite ay)) (fbx : T (finite bx)) (fby : T (finite by)) where
   distance-nonneg : T (nonneg (distanceOf ax ay bx by))
-  unfolding distanceOf
+  unfolding distanceOf squaresOf
   distance-nonneg =
       let dx = sub binary64 ax bx in
       let dy = sub binary64 ay by in
@@ -128,7 +128,7 @@ root-of-none = refl
 
 -- what `weight-zero` asks, with s = false
 pub distance-own : (x y : Float) → T (finite x) → T (finite y) → distanceOf x y x y ≡ fin false 0 (pos 0)
-unfolding distanceOf
+unfolding distanceOf squaresOf
 distance-own x y p q =
     ap (λ (d : Float). root (add binary64 (mul binary64 d d) (mul binary64 (sub binary64 y y) (sub binary64 y y)))) (less-itself x p)
     ∙ ap (λ (d : Float). let z = fin false 0 (pos 0) in root (add binary64 (mul binary64 z z) (mul binary64 d d))) (less-itself y q)

@@ -1,4 +1,4 @@
--- `kernel::bisquare_reach` meets its contract: its tests are those of the definition.
+-- `kernel::reaching::bisquare_reach` meets its contract: its tests are those of the definition.
 use borrow.Author.Needs.{needs}
 use mathlib.Core.Path.{_≡_, sym, ap, _∙_}
 use mathlib.Core.Bool.{Bool, true, false, cond}
@@ -8,8 +8,8 @@ use Rattle.real.specs.Reals.{zero64}
 use Rattle.root.specs.Root.{root}
 use Rattle.kernel.specs.Weight.{unusable}
 use Rattle.kernel.specs.Reach.{bisquareReach}
-use Rattle.kernel.proofs.bisquare_reach.Statement.{statement}
-use Rattle.kernel.proofs.bisquare_reach.Tie as tie
+use Rattle.kernel.proofs.reaching.bisquare_reach.Statement.{statement}
+use Rattle.kernel.proofs.reaching.bisquare_reach.Tie as tie
 
 module _ (b : Float) where
   endless : finite b ≡ false → nan ≡ bisquareReach b

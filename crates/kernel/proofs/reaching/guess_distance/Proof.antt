@@ -1,7 +1,7 @@
--- `kernel::guess_distance` meets its contract.
+-- `kernel::reaching::guess_distance` meets its contract.
 use borrow.Author.Needs.{needs}
-use Rattle.kernel.proofs.guess_distance.Statement.{statement}
-use Rattle.kernel.proofs.guess_distance.Tie as tie
+use Rattle.kernel.proofs.reaching.guess_distance.Statement.{statement}
+use Rattle.kernel.proofs.reaching.guess_distance.Tie as tie
 
 pub guess-distance-spec : {M : Type 1} → statement M
 guess-distance-spec =
