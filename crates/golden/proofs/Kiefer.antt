@@ -18,7 +18,7 @@ use Rattle.real.proofs.SignedOrder.{natural, nat-fin, in-fin, le-self, le-total
 use Rattle.real.proofs.Toward.{forward, width-finite, within-finite, toward-fin, toward-low, toward-high}
 use Rattle.golden.specs.declared.Bracket.{Bracket}
 use Rattle.golden.specs.Golden.{G, G2, startOf, firstOf, secondAt, secondOf, aimOf, bestAt, improvedOf, leftOf, rightOf, narrowOf}
-use Rattle.golden.specs.Kiefer.{Span, Inside, Within, Framed, Ordered, KieferRound, Narrowed, Valley, ScoredBy, Follows, opened, playedOf, triedOf, Each, Among, Steady, Narrowing, pointsOf, Searched}
+use Rattle.golden.specs.Kiefer.{Span, Inside, Within, Framed, Ordered, KieferRound, Narrowed, Valley, ScoredBy, Follows, opened, playedOf, triedOf, Each, Among, Steady, Narrowing, pointsOf, SearchInside}
 use Rattle.golden.proofs.Round.{improved-is, best-is, best-of-two}
 
 -- ---- the proportions: from 0 to 2 / 3
@@ -280,7 +280,7 @@ best-tried g (s ∷ l) = go (best-tried (narrowOf g s) l) (best-is g s)
     go (inl e) (inr h) = inr (inl (e ∙ h .0))
     go (inr q) h = inr (inr q)
 
-pub searched : {lo hi : Float} (w : Span lo hi) (s t : Float) (l : List Float) → Searched lo hi s t l
+pub searched : {lo hi : Float} (w : Span lo hi) (s t : Float) (l : List Float) → SearchInside lo hi s t l
 unfolding startOf
 searched {lo} {hi} w s t l =
     let g = opened lo hi s t in

@@ -1,7 +1,7 @@
 -- The golden section search of 000's `golden_section_min`, as a bracket that trials narrow. Definitions only.
 use mathlib.Core.Bool.{Bool, cond}
 use lib.Ieee.{Float, binary64, add, sub, mul, div, lt, le, ofBits}
-use Rattle.real.specs.Reals.{magnitude, zero64, one64}
+use Rattle.real.specs.Reals.{zero64, one64, two64, eps64, magnitude}
 use Rattle.root.specs.Root.{root}
 use Rattle.golden.specs.declared.Bracket.{Bracket}
 
@@ -9,7 +9,7 @@ use Rattle.golden.specs.declared.Bracket.{Bracket}
 
 -- 000's `inv_phi`, 01's G: the root of 5, less 1, over 2
 unfoldable pub invPhi : Float
-invPhi = div binary64 (sub binary64 (root (ofBits binary64 0x4014_0000_0000_0000)) one64) (ofBits binary64 0x4000_0000_0000_0000)
+invPhi = div binary64 (sub binary64 (root (ofBits binary64 0x4014_0000_0000_0000)) one64) two64
 
 -- 000's `inv_phi2`, 01's G2: G·G
 unfoldable pub invPhi2 : Float
@@ -23,19 +23,16 @@ G = ofBits binary64 0x3FE3_C6EF_372F_E950
 abbrev pub G2 : Float
 G2 = ofBits binary64 0x3FD8_7221_91A0_2D62
 
--- 01's EPS, 2^-52
-abbrev pub eps64 : Float
-eps64 = ofBits binary64 0x3CB0_0000_0000_0000
-
 -- ---- the bracket
 
 -- before a search: zeros, which no rule reads
 abbrev pub noBracket : Bracket
 noBracket = record { a = zero64; b = zero64; c = zero64; d = zero64; h = zero64; fc = zero64; fd = zero64; best = zero64; low = zero64 }
 
--- 01: trial 1 is c = a + G2·h, trial 2 is d = a + G·h
-abbrev pub bracketAt : Float → Float → Float → Bracket
-bracketAt lo hi h =
+-- 000: `h = b - a`; 01: trial 1 is c = a + G2·h, trial 2 is d = a + G·h
+unfoldable pub startOf : Float → Float → Bracket
+startOf lo hi =
+    let h = sub binary64 hi lo in
     record {
       a = lo;
       b = hi;
@@ -47,10 +44,6 @@ bracketAt lo hi h =
       best = zero64;
       low = zero64;
     }
-
--- 000: `h = b - a`
-unfoldable pub startOf : Float → Float → Bracket
-startOf lo hi = bracketAt lo hi (sub binary64 hi lo)
 
 -- 000: `fc = f(c)`
 abbrev pub firstOf : Bracket → Float → Bracket

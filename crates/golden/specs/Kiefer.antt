@@ -131,7 +131,7 @@ abbrev pub pointsOf : Float → Float → Float → Float → List Float → Lis
 pointsOf lo hi s t l = startOf lo hi .c ∷ startOf lo hi .d ∷ triedOf (opened lo hi s t) l
 
 -- a search of any number of rounds: every point tried lies from lo to hi, so does the last bracket, and the answer is a point tried
-pub record Searched (lo hi s t : Float) (l : List Float) : Type 0 where
+pub record SearchInside (lo hi s t : Float) (l : List Float) : Type 0 where
   pub points : Each (Inside lo hi) (pointsOf lo hi s t l)
   pub bracket : Within lo hi (playedOf (opened lo hi s t) l)
   pub answer : Among (playedOf (opened lo hi s t) l .best) (pointsOf lo hi s t l)
