@@ -100,8 +100,12 @@ module _ (v : Float) (low : T (le floor708 v)) (high : T (le v nought)) where
     lt-of-not-le (uncut v) (fin false 1 (pos 64)) (nat-fin (uncut v) uncut-nat) tt (λ h. no2 (le-tr (fin false 1 (pos 64)) (uncut v) (fin false 511 (pos 1)) h uncut-high)),
   )
 
-  pub K-le : expK v ≤ 1021
-  K-le = subst (λ (k : ℕ). k ≤ 1021) (sym (K-is v)) (subst (λ (k : ℕ). toUnsigned 64 (uncut v) ≤ k) K-bottom (toUnsigned-mono 64 (uncut v) (uncut floor708) uncut-nat (uncut-bottom .2) uncut-high'))
+  most-halvings : expK v ≤ 1021
+  most-halvings = subst (λ (k : ℕ). k ≤ 1021) (sym (K-is v)) (subst (λ (k : ℕ). toUnsigned 64 (uncut v) ≤ k) K-bottom (toUnsigned-mono 64 (uncut v) (uncut floor708) uncut-nat (uncut-bottom .2) uncut-high'))
+
+pub K-le : (v : Float) → T (le floor708 v) → T (le v zero64) → expK v ≤ 1021
+unfolding ofBits
+K-le v low high = most-halvings v low high
 
 nought-half : T (le nought half)
 unfolding le
@@ -122,7 +126,7 @@ r-zero = tt
 -- ---- r, with what the table says of K
 module _ (v : Float) (low : T (le floor708 v)) (high : T (le v nought)) where
   tab : (k : ℕ) → expK v ≡ k → All (tests k)
-  tab k e = table k (lt-of-le-of-lt (subst (λ (i : ℕ). i ≤ 1021) e (K-le v low high)) (lit< tt))
+  tab k e = table k (lt-of-le-of-lt (subst (λ (i : ℕ). i ≤ 1021) e (most-halvings v low high)) (lit< tt))
 
   -- v is above the lower number of its K
   pub from-below : (k : ℕ) → expK v ≡ k → T (le (vl k) v)

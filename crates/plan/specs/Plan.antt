@@ -9,7 +9,7 @@ use lib.ListN.{length, getD}
 use lib.Ieee.{Float, nan, binary64, mul, div, lt, le, ofBits, ofInt}
 use lib.Ieee.Scale.{finite}
 use Rattle.real.specs.Fold.{range}
-use Rattle.real.specs.Reals.{greater, lesser, roundInto, zero64}
+use Rattle.real.specs.Reals.{greater, lesser, roundInto, zero64, fromCount}
 use Rattle.refusal.specs.declared.Refusal.the-variants.{UnusableDistance, NoDistanceRange}
 use Rattle.kernel.specs.Weight.{distanceOf}
 use Rattle.kernel.specs.declared.GwrKernel.the-variants.{Bisquare}
@@ -28,10 +28,6 @@ use Rattle.plan.specs.Checks.{judge, inputTests}
 abbrev pub defaultOptions : GwrOptions
 defaultOptions = record { kernel = Bisquare; bandwidth = AdaptiveKnn 0; «optimize_bandwidth» = false }
 
--- n as a real
-abbrev pub realOf : ℕ → Float
-realOf n = ofInt binary64 (pos n)
-
 -- ---- the range of a searched distance
 
 -- 000's `max_d = max_d.max(distances[[i, j]])`
@@ -49,7 +45,7 @@ greatestDistance coords n = range (fartherFrom coords n) 0 n zero64
 
 -- 01's lo: the larger of hi/n and hi·1e-3, but not above hi
 unfoldable pub leastDistance : Float → ℕ → Float
-leastDistance hi n = lesser (greater (div binary64 hi (realOf n)) (mul binary64 hi (ofBits binary64 0x3F50_624D_D2F1_A9FC))) hi
+leastDistance hi n = lesser (greater (div binary64 hi (fromCount n)) (mul binary64 hi (ofBits binary64 0x3F50_624D_D2F1_A9FC))) hi
 
 -- what neither 11 nor 12 refuses: a distance that is finite and above 0
 unfoldable pub usableDistance : Float → Bool
@@ -77,7 +73,7 @@ greatestCount n p = max (n - 1) (leastCount p)
 unfoldable pub countPlan : ℕ → ℕ → Plan
 countPlan n p =
     cond (leb (greatestCount n p) (leastCount p)) (Settled (AdaptiveKnn (leastCount p)))
-    (Sought (realOf (leastCount p)) (realOf (greatestCount n p)))
+    (Sought (fromCount (leastCount p)) (fromCount (greatestCount n p)))
 
 -- 01: a point of the search is a distance, or rounded, halves away from zero, then brought into L..H
 unfoldable pub bandwidthAt : GwrBandwidth → Float → ℕ → ℕ → GwrBandwidth

@@ -22,7 +22,6 @@ unfolding expK uncut ofBits
 k-is c = c .truncating-f64-to-u64 .ensures
 
 k-le : (c : tie.After-truncating-f64-to-u64) → c .truncating-f64-to-u64 .result ≤ 1021
-unfolding ofBits
 k-le c = rw (k-is c) (K-le _ (subst T (sym (c .before .pre .0)) tt) (subst T (sym (c .before .pre .1)) tt))
 
 returns : tie.Need-returns
