@@ -20,8 +20,8 @@ use Rattle.real.proofs.Closed.{one, half, nought, two}
 use Rattle.real.proofs.SignedOrder.{sgn, le→sle, le-tr, le-total, natural, nat-fin, nat-sgn, sgn-natural, nat-above, add-mono, sub-opened, neg-finite, mul-by, mul-smono, mul-nmono, mul-mag, div-by, div-smono, div-mag, mag-in, mag-of, mag-finite, mag-self, mag-nat, in-fin, above-nat, le-self, round-mag, round-sgn, square-mag, here-or-on}
 use Rattle.exponent_table.specs.Reduction.{HI, LO}
 use Rattle.exponent_table.proofs.Tests.{allb, All, all→}
-use Rattle.elementary.specs.Ln.{threeHalves, mantissa, exponent, lnStep, lnSteps, lnSeries, lnAnswer, lnSplit, lnParts, lnv}
-use Rattle.elementary.specs.LnSteps.{SplitAs, StepsFinite, quarter, sixteenth, seriesMost, lnMost, zOf, wOf, SplitFinite, LnFinite}
+use Rattle.elementary.specs.Ln.{threeHalves, mantissa, exponent, lnStep, lnSteps, lnSeries, zOf, wOf, lnSplit, lnParts, lnv}
+use Rattle.elementary.specs.LnSteps.{SplitAs, StepsFinite, quarter, sixteenth, seriesMost, lnMost, SplitFinite, LnFinite}
 use Rattle.elementary.proofs.SplitExact.{split-exact}
 
 -- ---- laws that SignedOrder lacks
@@ -187,7 +187,7 @@ closed : All closedTests
 closed = all→ closedTests closed-test
 
 split-is : (m e : Float) → lnSplit m e ≡ add binary64 (mul binary64 e HI) (add binary64 (mul binary64 (mul binary64 two (zOf m)) (lnSeries (wOf m))) (mul binary64 e LO))
-unfolding lnSplit lnAnswer ofBits
+unfolding lnSplit ofBits
 split-is m e = refl
 
 -- ---- m from lo to hi, with |m - 1| ≤ A and m + 1 ≥ L

@@ -36,15 +36,18 @@ unfoldable pub lnSeries : Float → Float
 unfolding lnSteps div ofInt
 lnSeries w = lnSteps 11 w (div binary64 one64 (fromCount 23))
 
--- e·HI + ((2·z)·s + e·LO)
-unfoldable pub lnAnswer : Float → Float → Float
-unfolding lnSeries add mul ofBits
-lnAnswer z e = add binary64 (mul binary64 e HI) (add binary64 (mul binary64 (mul binary64 two64 z) (lnSeries (mul binary64 z z))) (mul binary64 e LO))
+-- 01's z: (m - 1)/(m + 1)
+abbrev pub zOf : Float → Float
+zOf m = div binary64 (sub binary64 m one64) (add binary64 m one64)
 
--- with z = (m - 1)/(m + 1)
+-- 01's w: z·z
+abbrev pub wOf : Float → Float
+wOf m = mul binary64 (zOf m) (zOf m)
+
+-- e·HI + ((2·z)·s + e·LO), s the series of w
 unfoldable pub lnSplit : Float → Float → Float
-unfolding lnAnswer add sub div
-lnSplit m e = lnAnswer (div binary64 (sub binary64 m one64) (add binary64 m one64)) e
+unfolding lnSeries add sub mul div ofBits
+lnSplit m e = add binary64 (mul binary64 e HI) (add binary64 (mul binary64 (mul binary64 two64 (zOf m)) (lnSeries (wOf m))) (mul binary64 e LO))
 
 -- where m ≥ 1.5, m is halved and e raised by one
 unfoldable pub lnParts : Float → Float → Float

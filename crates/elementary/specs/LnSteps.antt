@@ -9,7 +9,7 @@ use lib.Ieee.Exact.{HasValue}
 use lib.Ieee.Scale.{finite}
 use Rattle.real.specs.Reals.{zero64, half64, one64, two64, magnitude, fromCount}
 use Rattle.exponent_table.specs.Reduction.{HI, LO}
-use Rattle.elementary.specs.Ln.{threeHalves, mantissa, exponent, lnStep, lnSeries, lnSplit, lnv}
+use Rattle.elementary.specs.Ln.{threeHalves, mantissa, exponent, lnStep, lnSeries, zOf, wOf, lnSplit, lnv}
 
 -- 01's first step, v = m·2^e with m from 1 up to below 2, exactly: m is n / 2^52 and e is x - 1023, and v is (n / 2^52)·2^(x - 1023)
 pub record SplitAs (v : Float) (n x : ℕ) : Type 0 where
@@ -41,14 +41,6 @@ seriesMost = fin false 33 (negsuc 4)
 -- 711
 abbrev pub lnMost : Float
 lnMost = fin false 711 (pos 0)
-
--- 01's z: (m - 1)/(m + 1)
-abbrev pub zOf : Float → Float
-zOf m = div binary64 (sub binary64 m one64) (add binary64 m one64)
-
--- 01's w: z·z
-abbrev pub wOf : Float → Float
-wOf m = mul binary64 (zOf m) (zOf m)
 
 -- 01's steps once m and e are settled: each is finite, |z| at most 1/4, w from 0 to 1/16, s from 1 to 33/32, and the answer at most 711 in size
 pub record SplitFinite (m e : Float) : Type 0 where

@@ -4,9 +4,8 @@ use mathlib.Core.Bool.{Bool, true, false, cond}
 use lib.Dec.{lit<}
 use lib.Ieee.{Float, binary64, mul, lt, ofBits}
 use Rattle.golden.specs.declared.Bracket.{Bracket}
-use Rattle.golden.specs.Golden.{G, G2, startOf, goesLeft, aimOf, narrowOf}
+use Rattle.golden.specs.Golden.{G, G2, startOf, goesLeft, aimOf, improvedOf, narrowOf}
 use Rattle.golden.specs.Points.{lowerPoint, upperPoint, sectionAt, nextSection, roundedPoints, sectionOf, CommutativeRing, exactPoints, goldenResidual, Residues, GoldenSection, NearGolden}
-use Rattle.golden.proofs.Round.{improved-is}
 
 -- ---- how far G and G2 are from the golden section
 pub near-golden : NearGolden
@@ -23,12 +22,12 @@ unfolding startOf sectionAt
 start-section lo hi = rw square-is
 
 pub round-section : (g : Bracket) (s : Float) → sectionOf (narrowOf g s) ≡ nextSection roundedPoints (goesLeft g) (sectionOf g)
-unfolding narrowOf aimOf nextSection
+unfolding narrowOf improvedOf aimOf nextSection
 round-section g s = go (lt (g .fc) (g .fd)) refl
   where
     go : (b : Bool) → lt (g .fc) (g .fd) ≡ b → sectionOf (narrowOf g s) ≡ nextSection roundedPoints (goesLeft g) (sectionOf g)
-    go true e = rw (improved-is, e, square-is)
-    go false e = rw (improved-is, e)
+    go true e = rw (e, square-is)
+    go false e = rw e
 
 -- ---- the laws of a commutative ring that the identities take
 module _ {R : Type 0} (K : CommutativeRing R) where

@@ -49,13 +49,11 @@ startOf lo hi =
 abbrev pub firstOf : Bracket → Float → Bracket
 firstOf g s = record { a = g .a; b = g .b; c = g .c; d = g .d; h = g .h; fc = s; fd = g .fd; best = g .best; low = g .low }
 
--- the score of d is s, and the best point so far is x with the score w
-abbrev pub secondAt : Bracket → Float → Float → Float → Bracket
-secondAt g s x w = record { a = g .a; b = g .b; c = g .c; d = g .d; h = g .h; fc = g .fc; fd = s; best = x; low = w }
-
 -- 000: `fd = f(d)`; 01: best is c if fc ≤ fd, else d
 unfoldable pub secondOf : Bracket → Float → Bracket
-secondOf g s = cond (le (g .fc) s) (secondAt g s (g .c) (g .fc)) (secondAt g s (g .d) s)
+secondOf g s =
+    let first = le (g .fc) s in
+    record { a = g .a; b = g .b; c = g .c; d = g .d; h = g .h; fc = g .fc; fd = s; best = cond first (g .c) (g .d); low = cond first (g .fc) s }
 
 -- 000's test `fc < fd`: the next round keeps the part from a to d
 abbrev pub goesLeft : Bracket → Bool
@@ -67,13 +65,11 @@ aimOf g =
     cond (goesLeft g) (add binary64 (g .a) (mul binary64 G2 (sub binary64 (g .d) (g .a))))
     (add binary64 (g .c) (mul binary64 G (sub binary64 (g .b) (g .c))))
 
--- the best point is x with the score s
-abbrev pub bestAt : Bracket → Float → Float → Bracket
-bestAt g x s = record { a = g .a; b = g .b; c = g .c; d = g .d; h = g .h; fc = g .fc; fd = g .fd; best = x; low = s }
-
--- 01: only a strictly lower score replaces best
+-- after a trial at x with the score s; 01: only a strictly lower score replaces best
 unfoldable pub improvedOf : Bracket → Float → Float → Bracket
-improvedOf g x s = cond (lt s (g .low)) (bestAt g x s) g
+improvedOf g x s =
+    let lower = lt s (g .low) in
+    record { a = g .a; b = g .b; c = g .c; d = g .d; h = g .h; fc = g .fc; fd = g .fd; best = cond lower x (g .best); low = cond lower s (g .low) }
 
 -- 000's first branch of a round: the part from a to d stays, x is its new c with the score s
 abbrev pub leftOf : Bracket → Float → Float → Bracket

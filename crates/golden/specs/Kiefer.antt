@@ -106,12 +106,7 @@ unfoldable pub triedOf : Bracket → List Float → List Float
 triedOf g [] = []
 triedOf g (s ∷ l) = aimOf g ∷ triedOf (narrowOf g s) l
 
--- every member
-abbrev pub Each : (Float → Type 0) → List Float → Type 0
-Each P [] = Unit
-Each P (x ∷ l) = P x × Each P l
-
--- some member
+-- x is one of them
 abbrev pub Among : Float → List Float → Type 0
 Among x [] = ⊥
 Among x (y ∷ l) = (x ≡ y) ⊎ Among x l
@@ -132,7 +127,7 @@ pointsOf lo hi s t l = startOf lo hi .c ∷ startOf lo hi .d ∷ triedOf (opened
 
 -- a search of any number of rounds: every point tried lies from lo to hi, so does the last bracket, and the answer is a point tried
 pub record SearchInside (lo hi s t : Float) (l : List Float) : Type 0 where
-  pub points : Each (Inside lo hi) (pointsOf lo hi s t l)
+  pub points : (x : Float) → Among x (pointsOf lo hi s t l) → Inside lo hi x
   pub bracket : Within lo hi (playedOf (opened lo hi s t) l)
   pub answer : Among (playedOf (opened lo hi s t) l .best) (pointsOf lo hi s t l)
 
