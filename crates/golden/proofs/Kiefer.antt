@@ -104,8 +104,8 @@ module _ (g : Bracket) where
 pub round-kiefer : (g : Bracket) (s : Float) → KieferRound g (narrowOf g s) s
 round-kiefer g s =
     by-side g s (λ k. KieferRound g k s)
-    (λ e x v. inl (record { lower = e; left = refl; right = refl; reused = refl; reused-score = refl; tried = refl; tried-score = refl; width = refl }))
-    (λ e x v. inr (record { lower = e; left = refl; right = refl; reused = refl; reused-score = refl; tried = refl; tried-score = refl; width = refl }))
+    (λ e x v. record { left = rw e; right = rw e; c = rw e; c-score = rw e; d = rw e; d-score = rw e; width = refl })
+    (λ e x v. record { left = rw e; right = rw e; c = rw e; c-score = rw e; d = rw e; d-score = rw e; width = refl })
 
 -- ---- every member
 abbrev pub Each : (Float → Type 0) → List Float → Type 0

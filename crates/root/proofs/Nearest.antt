@@ -21,7 +21,8 @@ use Rattle.real.specs.Reals.{zero64, inf64, leastNormal}
 use Rattle.real.specs.Fractions.{fraction, fractionOf, fractionLess}
 use Rattle.real.proofs.Values.{untrue}
 use Rattle.real.proofs.SignedOrder.{nonneg}
-use Rattle.root.specs.Root.{root, rootUnits, inUnits, nearestRoot, unitsOfBits}
+use Rattle.root.specs.Root.{root, rootUnits, inUnits, nearestRoot}
+use Rattle.root.specs.Parts.{unitsOfBits}
 use Rattle.root.specs.Nearest.{unsigned, sumSquared, fourfold, NearestRoot}
 use Rattle.root.proofs.Powers.{PartedUnits, four-pow, subnormal, parted, normal-size, normal-value, by-length}
 use Rattle.root.proofs.Squares.{Close, nearest-close, nearest-bounds}

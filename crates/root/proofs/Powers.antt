@@ -9,7 +9,7 @@ use lib.Dec.{lit≤}
 use lib.Count.{leadingZeros, leading-top}
 use lib.Ieee.{size}
 use lib.Ieee.Digits.{size-lt, size-le}
-use Rattle.root.specs.Root.{Parted}
+use Rattle.root.specs.Parts.{Parted}
 
 pub four-pow : (h : ℕ) → 4 ^ h ≡ 2 ^ (h + h)
 four-pow zero = refl

@@ -10,7 +10,8 @@ use borrow.Author.Tests.{lt-ltb, le-ltb}
 use lib.Dec.{T, leb, leb→le, nleb→lt}
 use lib.Pow.{pow-mono, pow-add, pow-pos}
 use lib.Ieee.{nearest}
-use Rattle.root.specs.Root.{Rooted, Parted, rootDigit, isqrt, nearestRoot, oneIfBelow}
+use Rattle.root.specs.Root.{rootDigit, isqrt, nearestRoot}
+use Rattle.root.specs.Parts.{Rooted, Parted, oneIfBelow}
 
 -- ---- the digit loop: after i turns q has i digits, and with what is left it makes the first i pairs of digits of a
 pub record Digits (a q rem c i : ℕ) : Type 0 where

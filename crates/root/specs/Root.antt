@@ -1,8 +1,8 @@
 -- The square root of a binary64, rounded to nearest. Definitions, and examples at the end.
-use Prim.Native.Nat.{ℕ, zero, suc, _+_, _*_, _/_, _^_, _%_, _-_, _≤_, _<_, compare}
+use Prim.Native.Nat.{ℕ, zero, suc, _+_, _*_, _/_, _^_, compare}
 use mathlib.Core.Path.{_≡_, refl}
 use mathlib.Core.Bool.{false, cond, _&&_}
-use lib.Dec.{leb, ltb, eqb}
+use lib.Dec.{leb}
 use lib.Ieee.{Float, nan, inf, fin, binary64, up, down, lt, size, nearest, units, ofBits, toBits}
 use Rattle.real.specs.Reals.{zero64, inf64}
 
@@ -39,29 +39,6 @@ rootUnits n = let h = (size n + 1) / 2 in units binary64 false (nearestRoot (n *
 unfoldable pub root : Float → Float
 unfolding rootUnits inUnits lt
 root x = cond (lt x zero64) nan (cond (lt zero64 x && lt x inf64) (rootUnits (inUnits x)) x)
-
--- ---- what the code's parts ensure
-
--- q and r are the whole root of m and what is left of m
-pub record Rooted (m q r : ℕ) : Type 0 where
-  pub exact : q * q + r ≡ m
-  pub small : r ≤ q + q
-
--- a and h are the leading digits of a number of len digits, 53 or 54 of them, and half its length, as `rootUnits` has them: v is that number times 2 ^ 106
-pub record Parted (v len a h : ℕ) : Type 0 where
-  pub half : h ≡ (len + 1) / 2
-  pub value : v ≡ a * 2 ^ 52 * 4 ^ h
-  pub low : 2 ^ 52 ≤ a
-  pub high : a < 2 ^ 54 - 1
-  pub short : h ≤ 1049
-
--- the units of the bit pattern of a positive finite binary64
-unfoldable pub unitsOfBits : ℕ → ℕ
-unitsOfBits b = cond (eqb (b / 2 ^ 52) 0) b ((2 ^ 52 + b % 2 ^ 52) * 2 ^ (b / 2 ^ 52 - 1))
-
--- 1 where m is below n, else 0
-unfoldable pub oneIfBelow : ℕ → ℕ → ℕ
-oneIfBelow m n = cond (ltb m n) 1 0
 
 -- ---- examples, by their bits
 

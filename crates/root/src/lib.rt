@@ -7,7 +7,8 @@ ghost use mathlib.Core.Bool.{true};
 ghost use Prim.Native.Nat.{_+_, _*_, _^_, _≤_, _<_};
 ghost use lib.Ieee.{lt, size};
 ghost use Rattle.real.specs.Reals.{zero64, inf64};
-ghost use Rattle.root.specs.Root.{root, rootUnits, inUnits, Parted, unitsOfBits};
+ghost use Rattle.root.specs.Root.{root, rootUnits, inUnits};
+ghost use Rattle.root.specs.Parts.{Parted, unitsOfBits};
 
 mod guessing;
 mod plain;

@@ -1,7 +1,8 @@
 // The square root digit by digit, in integers: right for every number, and slow.
 ghost use mathlib.Core.Path.{_≡_};
 ghost use Prim.Native.Nat.{_*_, _^_, _-_, _≤_, _<_};
-ghost use Rattle.root.specs.Root.{nearestRoot, Rooted};
+ghost use Rattle.root.specs.Root.{nearestRoot};
+ghost use Rattle.root.specs.Parts.{Rooted};
 
 // The whole root of a number and what is left: q * q + rem is the number.
 struct Root {

@@ -1,7 +1,8 @@
 // The square root from a guess, in integers: fast where the guess is near, and right whatever it is.
 ghost use mathlib.Core.Path.{_≡_};
 ghost use Prim.Native.Nat.{_+_, _*_, _^_, _-_, _≤_, _<_};
-ghost use Rattle.root.specs.Root.{nearestRoot, oneIfBelow};
+ghost use Rattle.root.specs.Root.{nearestRoot};
+ghost use Rattle.root.specs.Parts.{oneIfBelow};
 use super::plain::plain;
 
 // a * 2^52 - g * g + 2^56, where g is near enough to the root that every step fits in 64 bits; else 0.
