@@ -64,9 +64,9 @@ pub record DemandTwo : Type 1 where
   pub first-points : (lo hi : Float) → points.sectionOf (startOf lo hi) ≡ points.sectionAt points.roundedPoints lo hi
   pub next-points : (g : Bracket) (s : Float) → points.sectionOf (narrowOf g s) ≡ points.nextSection points.roundedPoints (goesLeft g) (points.sectionOf g)
   -- where nothing is rounded and g² = 1 - g, they are Kiefer's: a + g²·h is b - g·h, and after a round on either side the reused point stands where the part kept wants it
-  pub golden-section : {R : Type 0} (K : points.CommutativeRing R) (g : R) → K .times g g ≡ points.exactPoints K g .minus (K .one) g → (a b : R) → points.GoldenSection K g a b
+  pub golden-section : {R : Type 0} (K : points.CommutativeRing R) (g : R) → K .times g g ≡ points.exactPoints K g .minus (K .one) g → (a b : R) → points.GoldenSection (points.exactPoints K g) a b
   -- of any other ratio, what e = g² + g - 1 leaves of that
-  pub residues : {R : Type 0} (K : points.CommutativeRing R) (g a b : R) → points.Residues K g a b
+  pub residues : {R : Type 0} (K : points.CommutativeRing R) (g a b : R) → points.Residues (points.exactPoints K g) (points.goldenResidual K g) a b
   -- and of G that is 38494044947129 / 2^98, below 2^-52; G2 - (1 - G) is 2^-53
   pub ratio-near : points.NearGolden
   -- an accepted job's search goes between finite numbers lo ≤ hi whose difference is finite

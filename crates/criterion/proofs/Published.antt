@@ -5,7 +5,6 @@ use mathlib.Core.Bool.{Bool, true, false, not, _&&_, _||_}
 use Prim.Native.Nat.{ℕ}
 use native.Mathlib.Nat.{mul-assoc, mul-left-comm}
 use lib.Dec.{T}
-use lib.IntN.{negsuc}
 use lib.Ieee.{Float, nan, inf, fin, binary64, unlike, lt, le, eq, fits, isNan, ofBits, mul, div}
 use lib.Ieee.Fits.{div-fits, mul-fits}
 use lib.Ieee.Bits.{is-true, is-false}

@@ -14,12 +14,12 @@ use lib.Ieee.Scale.{finite}
 use Rattle.real.specs.Reals.{zero64, one64, magnitude}
 use Rattle.real.proofs.Closed.{one, half, nought}
 use Rattle.real.proofs.SignedOrder.{le-tr, le-total, neg-anti, natural, nat-fin, add-mono, mul-smono, mul-nmono, mag-of, in-fin, above-nat, toUnsigned-mono, lt-of-not-le, nlt→le, le-self, neg-finite, zero-times}
-use Rattle.exponent_table.specs.Reduction.{INV, floor708, uncut, expK, expRest, twoToMinus}
+use Rattle.exponent_table.specs.Reduction.{INV, floor708, expK, expRest, twoToMinus}
 use Rattle.elementary.specs.Exp.{expSteps, expNear, expv}
 use Rattle.elementary.specs.Ln.{threeHalves}
 use Rattle.elementary.proofs.StepsRange.{R35-nat, s-in, s-neg}
 use Rattle.exponent_table.proofs.Tests.{All}
-use Rattle.exponent_table.proofs.Table.{R35, vl, vh, kHI, kLO, tests}
+use Rattle.exponent_table.proofs.Table.{R35, uncut, vl, vh, kHI, kLO, tests}
 use Rattle.exponent_table.proofs.Sweep.{table}
 
 INV-nat : T (natural INV)
@@ -52,7 +52,7 @@ unfolding uncut toUnsigned ofBits
 K-bottom = refl
 
 K-is : (v : Float) → expK v ≡ toUnsigned 64 (uncut v)
-unfolding expK
+unfolding expK uncut
 K-is v = refl
 
 pub r-is : (v : Float) (k : ℕ) → expRest v k ≡ add binary64 (add binary64 v (kHI k)) (kLO k)

@@ -4,14 +4,14 @@ use mathlib.Core.Logic.{inl, inr}
 use mathlib.Core.List.{List, [], _∷_}
 use mathlib.Core.Bool.{Bool, true, false, not, _&&_, cond}
 use Prim.Native.Nat.{ℕ, zero, suc, _+_, _*_, _/_, _%_, _^_, _≤_, _<_, _-_}
-use native.Mathlib.Nat.{mul-assoc, mul-comm, mul-left-comm, mul-one, one-mul, mul-pos, mul-le-mul-left, mul-le-mul-right, le-trans, le-of-eq}
+use native.Mathlib.Nat.{mul-assoc, mul-comm, mul-left-comm, mul-pos, mul-le-mul-left, mul-le-mul-right, le-trans, le-of-eq}
 use native.Mathlib.Omega.{arith}
 use borrow.Author.Tests.{lt-leb, le-leb}
-use lib.Dec.{T, leb, ltb, ltb→lt, lit<}
+use lib.Dec.{T, lit<}
 use lib.IntN.{ℤ, pos, negsuc}
 use lib.Ieee.{Float, nan, inf, fin, binary64, add, sub, mul, div, neg, lt, le, ofInt, ofBits, toBits, fits, round, minus, isNan}
 use lib.Ieee.Fits.{and-l, and-r}
-use lib.Ieee.Bits.{is-true, is-false}
+use lib.Ieee.Bits.{is-true}
 use lib.Ieee.Order.{le-of-values, round-mono}
 use lib.Ieee.Scale.{finite}
 use lib.Ieee.Positive.{num, den, den-pos, positive, own-value, value-pos, between}
@@ -21,8 +21,21 @@ use Rattle.real.proofs.SignedOrder.{sgn, le→sle, le-tr, le-total, natural, na
 use Rattle.exponent_table.specs.Reduction.{HI, LO}
 use Rattle.exponent_table.proofs.Tests.{allb, All, all→}
 use Rattle.elementary.specs.Ln.{threeHalves, mantissa, exponent, lnStep, lnSteps, lnSeries, zOf, wOf, lnSplit, lnParts, lnv}
-use Rattle.elementary.specs.LnSteps.{SplitAs, StepsFinite, quarter, sixteenth, seriesMost, lnMost, SplitFinite, LnFinite}
+use Rattle.elementary.specs.LnSteps.{SplitAs, StepsFinite, SplitFinite, LnFinite}
 use Rattle.elementary.proofs.SplitExact.{split-exact}
+
+-- ---- the bounds: 1/4, 1/16, 33/32 and 711
+abbrev quarter : Float
+quarter = fin false 1 (negsuc 1)
+
+abbrev sixteenth : Float
+sixteenth = fin false 1 (negsuc 3)
+
+abbrev seriesMost : Float
+seriesMost = fin false 33 (negsuc 4)
+
+abbrev lnMost : Float
+lnMost = fin false 711 (pos 0)
 
 -- ---- laws that SignedOrder lacks
 num-of : (x : Float) → T (positive x) → 0 < num x
@@ -243,7 +256,7 @@ module _ (lo hi A L : Float) (ok : All (intervalTests lo hi A L)) (m e : Float) 
   z-fin = mag-finite (zOf m) quarter tt z-mag
 
   split-finite : SplitFinite m e
-  unfolding ofBits
+  unfolding ofBits round ofInt
   split-finite =
       let c5 = closed .1 .1 .1 .1 .1 in
       let c10 = c5 .1 .1 .1 .1 .1 in
@@ -394,7 +407,7 @@ module _ (v : Float) (F : T (fits binary64 v)) (low : T (le leastNormal v)) (hig
 
   -- every step of ln is finite
   pub ln-finite : LnFinite v
-  unfolding ofBits
+  unfolding ofBits round ofInt
   ln-finite =
       record {
         m = m-fin;

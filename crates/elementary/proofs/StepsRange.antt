@@ -1,12 +1,11 @@
 -- The steps of exp on an interval: with |r| at most 0.35 the 13 steps from 1 stay from 1/2 to 3/2, and with r at most 0 the last gives 1 at most. Assumes nothing.
 use mathlib.Core.Path.{_≡_, refl, sym, ap, _∙_, subst}
 use Prim.Native.Nat.{ℕ, zero, suc, _<_}
-use native.Mathlib.Omega.{arith}
 use mathlib.Core.List.{List, [], _∷_}
-use mathlib.Core.Bool.{Bool, false, _&&_}
-use lib.IntN.{pos, negsuc}
+use mathlib.Core.Bool.{Bool, _&&_}
+use lib.IntN.{pos}
 use lib.Dec.{T, ltb, ltb→lt}
-use lib.Ieee.{Float, fin, binary64, add, mul, div, neg, le, ofInt, ofBits, round}
+use lib.Ieee.{Float, binary64, add, mul, div, neg, le, ofInt, ofBits, round}
 use lib.Ieee.Fits.{and-l, and-r}
 use lib.Ieee.Scale.{finite}
 use lib.Ieee.Positive.{num, positive}

@@ -19,15 +19,10 @@ INV = ofBits binary64 0x3FF71547652B82FE
 abbrev pub floor708 : Float
 floor708 = fin true 177 (pos 2)
 
--- 0.5 - v·INV
-unfoldable pub uncut : Float → Float
-unfolding sub mul ofBits
-uncut v = sub binary64 half64 (mul binary64 v INV)
-
--- K: its whole part
+-- K: the whole part of 0.5 - v·INV
 unfoldable pub expK : Float → ℕ
-unfolding toUnsigned uncut
-expK v = toUnsigned 64 (uncut v)
+unfolding toUnsigned sub mul ofBits
+expK v = toUnsigned 64 (sub binary64 half64 (mul binary64 v INV))
 
 -- r = (v + K·HI) + K·LO
 unfoldable pub expRest : Float → ℕ → Float

@@ -3,7 +3,7 @@
 use Prim.Native.Nat.{ℕ, _+_}
 use mathlib.Core.Path.{_≡_, refl}
 use mathlib.Core.Bool.{Bool, true, false, cond, not}
-use mathlib.Core.List.{List, [], _∷_}
+use mathlib.Core.List.{[], _∷_}
 use lib.ListN.{getD, set}
 use lib.Dec.{eqb}
 use lib.Ieee.{Float, nan, binary64, mul, sub, div, neg, lt, eq, ofBits}

@@ -114,7 +114,7 @@ module _ {R : Type 0} (K : CommutativeRing R) where
         ∙ ap (λ (v : R). a + (g * h + v)) (sym (times-associative e g h) ∙ ap (λ (v : R). v * h) (times-commutative e g) ∙ times-associative g e h)
         ∙ sym (plus-associative a (g * h) (g * (e * h)))
 
-    pub residues : Residues K g a b
+    pub residues : Residues (exactPoints K g) (goldenResidual K g) a b
     residues =
         let u = e * h in
         let v = (g + - (g * g)) * u in
@@ -155,7 +155,7 @@ module _ {R : Type 0} (K : CommutativeRing R) where
           ∙ ap (λ (v : R). high g a b + v) (times-zero (g + - (g * g)))
           ∙ plus-zero (high g a b)
 
-    pub golden-section : (a b : R) → GoldenSection K g a b
+    pub golden-section : (a b : R) → GoldenSection (exactPoints K g) a b
     unfolding sectionAt nextSection
     golden-section a b =
         record {

@@ -78,34 +78,29 @@ exactPoints K g = record { ratio = g; plus = K .plus; minus = λ x y. K .plus x 
 abbrev pub goldenResidual : {R : Type 0} → CommutativeRing R → R → R
 goldenResidual K g = let A = exactPoints K g in A .minus (A .plus (A .times g g) g) (K .one)
 
--- of any ratio g and any bracket from a to b, with h = b - a and e = g² + g - 1
-pub record Residues {R : Type 0} (K : CommutativeRing R) (g a b : R) : Type 0 where
+-- of any ratio and any bracket from a to b, with h = b - a and the ratio's e
+pub record Residues {R : Type 0} (A : PointArithmetic R) (e a b : R) : Type 0 where
   -- c and d are mirror images but for e·h
-  pub mirrored :
-      let A = exactPoints K g in
-      A .plus (lowerPoint A a b) (upperPoint A a b) ≡ A .plus (A .plus a b) (A .times (goldenResidual K g) (A .minus b a))
+  pub mirrored : A .plus (lowerPoint A a b) (upperPoint A a b) ≡ A .plus (A .plus a b) (A .times e (A .minus b a))
   -- c stands where the part from a to d wants its d
-  pub left : let A = exactPoints K g in upperPoint A a (upperPoint A a b) ≡ lowerPoint A a b
+  pub left : upperPoint A a (upperPoint A a b) ≡ lowerPoint A a b
   -- d stands where the part from c to b wants its c, but for (g - g²)·e·h
   pub right :
-      let A = exactPoints K g in
-      lowerPoint A (lowerPoint A a b) b
-      ≡ A .plus (upperPoint A a b) (A .times (A .minus g (A .times g g)) (A .times (goldenResidual K g) (A .minus b a)))
+      let g = A .ratio in
+      lowerPoint A (lowerPoint A a b) b ≡ A .plus (upperPoint A a b) (A .times (A .minus g (A .times g g)) (A .times e (A .minus b a)))
 
--- where g² = 1 - g, as (√5 - 1) / 2 of the real numbers, and of any bracket from a to b, with h = b - a
-pub record GoldenSection {R : Type 0} (K : CommutativeRing R) (g a b : R) : Type 0 where
+-- where the ratio g has g² = 1 - g, as (√5 - 1) / 2 of the real numbers, and of any bracket from a to b, with h = b - a
+pub record GoldenSection {R : Type 0} (A : PointArithmetic R) (a b : R) : Type 0 where
   -- a + g²·h is b - g·h
-  pub from-right : let A = exactPoints K g in lowerPoint A a b ≡ A .minus b (A .times g (A .minus b a))
+  pub from-right : lowerPoint A a b ≡ A .minus b (A .times (A .ratio) (A .minus b a))
   -- either part has the width g·h
-  pub left-width : let A = exactPoints K g in A .minus (upperPoint A a b) a ≡ A .times g (A .minus b a)
-  pub right-width : let A = exactPoints K g in A .minus b (lowerPoint A a b) ≡ A .times g (A .minus b a)
+  pub left-width : A .minus (upperPoint A a b) a ≡ A .times (A .ratio) (A .minus b a)
+  pub right-width : A .minus b (lowerPoint A a b) ≡ A .times (A .ratio) (A .minus b a)
   -- after a round on either side both points, the reused and the new, stand at the golden section of the part kept
-  pub round : (left : Bool) →
-      let A = exactPoints K g in
-      nextSection A left (sectionAt A a b) ≡ sectionAt A (cond left a (lowerPoint A a b)) (cond left (upperPoint A a b) b)
+  pub round : (left : Bool) → nextSection A left (sectionAt A a b) ≡ sectionAt A (cond left a (lowerPoint A a b)) (cond left (upperPoint A a b) b)
   -- Kiefer's rule: the new point is the mirror image of the reused one in the part kept
-  pub left-new : let A = exactPoints K g in lowerPoint A a (upperPoint A a b) ≡ A .minus (A .plus a (upperPoint A a b)) (lowerPoint A a b)
-  pub right-new : let A = exactPoints K g in upperPoint A (lowerPoint A a b) b ≡ A .minus (A .plus (lowerPoint A a b) b) (upperPoint A a b)
+  pub left-new : lowerPoint A a (upperPoint A a b) ≡ A .minus (A .plus a (upperPoint A a b)) (lowerPoint A a b)
+  pub right-new : upperPoint A (lowerPoint A a b) b ≡ A .minus (A .plus (lowerPoint A a b) b) (upperPoint A a b)
 
 -- ---- how far the binary64 G and G2 are from it
 

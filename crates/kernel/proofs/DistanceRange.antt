@@ -1,16 +1,16 @@
 -- The distance between two places with finite coordinates is no NaN and not negative, and that of a place from itself is 0. Assumes nothing.
 use mathlib.Core.Path.{_≡_, refl, sym, ap, _∙_, subst}
 use mathlib.Core.Bool.{Bool, true, false, not, _&&_, cond, Bool·beq}
-use Prim.Native.Nat.{ℕ, zero, suc, _+_, _-_, _*_, _/_, _^_, _<_}
-use native.Mathlib.Nat.{sub-self, lt-irrefl, mul-pos, zero-mul, not-suc-le-zero}
+use Prim.Native.Nat.{ℕ, _+_, _-_, _*_, _<_}
+use native.Mathlib.Nat.{sub-self, lt-irrefl, mul-pos}
 use lib.IntN.{pos}
 use lib.Dec.{T, ltb, ltb→lt}
-use lib.Ieee.{Float, nan, inf, fin, Format, binary64, up, down, prec, emax, low, size, odd, units, round, sum, add, sub, mul, neg, lt, le, ofBits, isNan}
+use lib.Ieee.{Float, nan, inf, fin, Format, binary64, up, down, round, sum, add, sub, mul, neg, le, ofBits, isNan}
 use lib.Ieee.Fits.{down-pos}
 use lib.Ieee.Scale.{finite}
 use Rattle.real.specs.Reals.{zero64}
 use Rattle.real.proofs.Values.{untrue}
-use Rattle.real.proofs.SignedOrder.{nonneg, round-nonneg, round-neg, zero-of, nat-above}
+use Rattle.real.proofs.SignedOrder.{nonneg, round-nonneg, round-neg, zero-of}
 use Rattle.root.specs.Root.{root}
 use Rattle.root.proofs.Order.{nonneg-number, nonneg-above, root-nonneg}
 use Rattle.kernel.specs.Weight.{squaresOf, distanceOf}

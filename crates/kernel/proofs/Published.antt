@@ -5,7 +5,7 @@ use Prim.Native.Nat.{ℕ, _-_, _*_, _≤_, _<_}
 use native.Mathlib.Nat.{mul-assoc, mul-one, one-mul, mul-le-mul, le-of-lt}
 use borrow.Author.Tests.{lt-ltb, le-ltb}
 use lib.Dec.{T}
-use lib.Ieee.{Float, eq, ofBits}
+use lib.Ieee.{Float, eq}
 use lib.Ieee.Bits.{is-true, is-false}
 use Rattle.real.specs.Reals.{zero64, one64}
 use Rattle.real.specs.Fractions.{Fraction, fraction}

@@ -6,7 +6,7 @@ use native.Mathlib.Nat.{le-trans, le-refl, le-of-lt, le-of-eq, le-suc, mul-one, 
 use native.Mathlib.Omega.{arith}
 use mathlib.Core.Bool.{Bool, true, false, not, _&&_, _||_, cond}
 use lib.Arith.{le-zero}
-use lib.IntN.{ℤ, pos, negsuc}
+use lib.IntN.{ℤ, pos}
 use lib.Dec.{T, leb, ltb, eqb, ltb→lt, lt→ltb, lit<}
 use lib.Ieee.{Float, nan, inf, fin, binary64, up, down, add, mul, div, sub, neg, lt, le, eq, ofBits, ofInt, round, isNan, fits, unlike}
 use lib.Ieee.Bits.{is-true}

@@ -2,7 +2,7 @@
 use Prim.Native.Nat.{ℕ, _+_}
 use mathlib.Core.Bool.{cond}
 use lib.ListN.{getD}
-use lib.Ieee.{Float, nan, binary64, add, sub, mul, div, le, eq, ofBits}
+use lib.Ieee.{Float, nan, binary64, add, sub, mul, div, le, eq}
 use Rattle.real.specs.Matrix.{Row, Matrix}
 use Rattle.real.specs.Fold.{range}
 use Rattle.real.specs.Reals.{zero64, one64, clampUnit, eps64}

@@ -1,7 +1,7 @@
 -- Inner products and conjunctions over the first m cells, as the loops of 000's `solve_local` form them. Definitions only.
 use Prim.Native.Nat.{ℕ, _+_}
 use mathlib.Core.Bool.{Bool, true, _&&_}
-use mathlib.Core.List.{List, []}
+use mathlib.Core.List.{[]}
 use lib.ListN.{getD}
 use lib.Ieee.{Float, nan, binary64, add, mul}
 use Rattle.real.specs.Matrix.{Row, Matrix}

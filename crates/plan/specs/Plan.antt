@@ -4,9 +4,8 @@ use mathlib.Core.Path.{_≡_}
 use mathlib.Core.Bool.{Bool, false, cond, _&&_}
 use mathlib.Core.List.{List}
 use lib.Dec.{leb}
-use lib.IntN.{pos}
 use lib.ListN.{length, getD}
-use lib.Ieee.{Float, nan, binary64, mul, div, lt, le, ofBits, ofInt}
+use lib.Ieee.{Float, nan, binary64, mul, div, lt, le, ofBits}
 use lib.Ieee.Scale.{finite}
 use Rattle.real.specs.Fold.{range}
 use Rattle.real.specs.Reals.{greater, lesser, roundInto, zero64, fromCount}

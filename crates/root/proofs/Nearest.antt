@@ -7,7 +7,7 @@ use native.Mathlib.Decide.{decLe}
 use native.Mathlib.Omega.{arith}
 use lib.Dec.{T, leb, ltb, eqb, leb→le, ltb→lt, lt→ltb}
 use lib.Count.{leadingZeros}
-use lib.IntN.{ℤ, pos, negsuc}
+use lib.IntN.{pos, negsuc}
 use lib.Pow.{pow-add, pow-pos, pow-mono, pow-lt, shl-lt}
 use lib.Ieee.{Float, nan, inf, fin, binary64, up, down, lt, le, size, units, ofBits, toBits, fits}
 use lib.Ieee.Digits.{back}
@@ -26,7 +26,7 @@ use Rattle.root.specs.Parts.{unitsOfBits}
 use Rattle.root.specs.Nearest.{unsigned, sumSquared, fourfold, NearestRoot}
 use Rattle.root.proofs.Powers.{PartedUnits, four-pow, subnormal, parted, normal-size, normal-value, by-length}
 use Rattle.root.proofs.Squares.{Close, nearest-close, nearest-bounds}
-use Rattle.root.proofs.Patterns.{Pattern, pattern, assembled, the-root-units}
+use Rattle.root.proofs.Patterns.{pattern, assembled, the-root-units}
 
 -- ---- small laws
 pow-back : (i j : ℕ) → 2 ^ i < 2 ^ j → i < j

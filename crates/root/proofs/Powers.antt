@@ -1,7 +1,7 @@
 -- Powers of two in the parts of a number: its length, and half of it.
 use mathlib.Core.Path.{_≡_, refl, sym, ap, _∙_, subst}
 use Prim.Native.Nat.{ℕ, zero, suc, _+_, _-_, _*_, _/_, _%_, _^_, _≤_, _<_}
-use native.Mathlib.Nat.{mul-assoc, mul-comm, mul-one, pow-suc, pow-zero, lt-irrefl, lt-of-lt-of-le, le-trans, lt-of-not-le, add-suc, suc-add, le-antisymm, le-of-eq, mul-le-mul-right, mod-eq-of-lt}
+use native.Mathlib.Nat.{mul-assoc, mul-one, pow-suc, lt-irrefl, lt-of-lt-of-le, le-trans, lt-of-not-le, add-suc, suc-add, le-antisymm, le-of-eq, mul-le-mul-right, mod-eq-of-lt}
 use native.Mathlib.Decide.{decLe}
 use native.Mathlib.Omega.{arith}
 use lib.Pow.{pow-add, pow-mono, shl-lt}

@@ -1,15 +1,14 @@
 -- Whole square roots: one turn of the digit loop, the definition's root, and that there is one root.
 use mathlib.Core.Path.{_≡_, refl, sym, ap, _∙_, subst}
 use mathlib.Core.Bool.{Bool, true, false, not, cond}
-use Prim.Native.Nat.{ℕ, zero, suc, _+_, _-_, _*_, _/_, _%_, _^_, _≤_, _<_, suc-le-suc, compare, Ordering, Ordering·lt, Ordering·eq, Ordering·gt, compare·zero-zero, compare·zero-suc, compare·suc-zero, compare·suc-suc}
-use native.Mathlib.Nat.{mul-add, add-mul, mul-comm, mul-assoc, add-assoc, add-comm, add-left-comm, mul-left-comm, mul-le-mul, pow-suc, pow-le-pow-right, lt-of-lt-of-le, le-trans, not-suc-le-zero, le-of-suc-le-suc, lt-irrefl, lt-of-le-of-lt, lt-of-not-le, not-le-of-lt, mul-mul-mul-comm, mul-right-comm, mul-le-mul-right, le-of-lt, mul-lt-mul-of-pos-left}
+use Prim.Native.Nat.{ℕ, zero, suc, _+_, _-_, _*_, _/_, _%_, _^_, _≤_, _<_, compare, Ordering·lt, Ordering·gt, compare·zero-suc, compare·suc-zero, compare·suc-suc}
+use native.Mathlib.Nat.{mul-add, add-mul, mul-comm, mul-assoc, mul-left-comm, mul-le-mul, pow-suc, lt-of-lt-of-le, le-trans, not-suc-le-zero, le-of-suc-le-suc, lt-irrefl, lt-of-le-of-lt, lt-of-not-le, mul-mul-mul-comm, mul-right-comm, mul-le-mul-right, le-of-lt, mul-lt-mul-of-pos-left}
 use native.Mathlib.Numerals.{add-one}
 use native.Mathlib.Decide.{decLe}
 use native.Mathlib.Omega.{arith}
 use borrow.Author.Tests.{lt-ltb, le-ltb}
 use lib.Dec.{T, leb, leb→le, nleb→lt}
 use lib.Pow.{pow-mono, pow-add, pow-pos}
-use lib.Ieee.{nearest}
 use Rattle.root.specs.Root.{rootDigit, isqrt, nearestRoot}
 use Rattle.root.specs.Parts.{Rooted, Parted, oneIfBelow}
 

@@ -1,12 +1,7 @@
 -- A guess at a root: nothing rests on its value, since the root is settled from any. Definitions only.
-use Prim.Native.Nat.{ℕ, _+_, _%_}
+use Prim.Native.Nat.{_+_, _%_}
 use mathlib.Core.Bool.{cond}
 use lib.Ieee.{Float, binary64, add, sub, mul, div, eq, ofBits, toBits}
-
--- the bits of x, and 0 for NaN
-unfoldable pub patternOf : Float → ℕ
-unfolding eq toBits
-patternOf x = cond (eq x x) (toBits binary64 x) 0
 
 -- a polynomial near the root of s, for s from 1/2 to 2
 unfoldable pub estimateOf : Float → Float
@@ -25,9 +20,9 @@ newtonOf s y =
     let z = add binary64 y (div binary64 s y) in
     add binary64 (mul binary64 (ofBits binary64 0x3FD0_0000_0000_0000) z) (div binary64 s z)
 
--- the digits of x with an exponent that makes them a number from 1/2 to 2, and the guess at its root
+-- the digits of x, those of 0 for NaN, with an exponent that makes them a number from 1/2 to 2, and the guess at its root
 unfoldable pub guessOf : Float → Float
-unfolding patternOf estimateOf newtonOf ofBits
+unfolding eq toBits estimateOf newtonOf ofBits
 guessOf x =
-    let s = ofBits binary64 (patternOf x % 0x20_0000_0000_0000 + 0x3FE0_0000_0000_0000) in
+    let s = ofBits binary64 (cond (eq x x) (toBits binary64 x) 0 % 0x20_0000_0000_0000 + 0x3FE0_0000_0000_0000) in
     newtonOf s (estimateOf s)

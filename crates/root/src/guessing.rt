@@ -1,10 +1,12 @@
 // A guess at a square root, in floating point. How near it comes is not claimed: `settle` judges it.
 ghost use mathlib.Core.Path.{_≡_};
-ghost use Rattle.root.specs.Guess.{patternOf, estimateOf, newtonOf, guessOf};
+ghost use mathlib.Core.Bool.{cond};
+ghost use lib.Ieee.{binary64, eq, toBits};
+ghost use Rattle.root.specs.Guess.{estimateOf, newtonOf, guessOf};
 
 // The pattern of x, and 0 for NaN.
 fn pattern(x: f64) -> u64
-    ensures { λ r. ⌜ r ≡ patternOf x ⌝ }
+    ensures { λ r. ⌜ r ≡ cond (eq x x) (toBits binary64 x) 0 ⌝ }
 {
     if x == x { f64::to_bits(x) } else { 0 }
 }

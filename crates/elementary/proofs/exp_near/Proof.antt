@@ -5,7 +5,8 @@ use native.Mathlib.Omega.{arith}
 use Prim.Native.Nat.{ℕ, _≤_}
 use lib.Dec.{T}
 use lib.Ieee.{binary64, mul, ofBits}
-use Rattle.exponent_table.specs.Reduction.{uncut, expK, expRest, twoToMinus}
+use Rattle.exponent_table.proofs.Table.{uncut}
+use Rattle.exponent_table.specs.Reduction.{expK, expRest, twoToMinus}
 use Rattle.real.specs.Reals.{one64}
 use Rattle.elementary.specs.Exp.{expNear, expSteps}
 use Rattle.elementary.proofs.ExpRange.{uncut-in-range, K-le}
@@ -18,7 +19,7 @@ truncating-f64-to-u64-requires c κs = uncut-in-range _ (subst T (sym (c .pre .0
 
 -- the code's k is K
 k-is : (c : tie.After-truncating-f64-to-u64) → c .truncating-f64-to-u64 .result ≡ expK (c .before .args .v)
-unfolding expK uncut ofBits
+unfolding expK ofBits
 k-is c = c .truncating-f64-to-u64 .ensures
 
 k-le : (c : tie.After-truncating-f64-to-u64) → c .truncating-f64-to-u64 .result ≤ 1021

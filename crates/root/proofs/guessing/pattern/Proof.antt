@@ -1,11 +1,9 @@
 -- `root::guessing::pattern` meets its contract.
-use Rattle.root.specs.Guess.{patternOf}
 use Rattle.root.proofs.Patterns.{is-number}
 use Rattle.root.proofs.guessing.pattern.Statement.{statement}
 use Rattle.root.proofs.guessing.pattern.Tie as tie
 
 pub pattern-spec : {M : Type 1} → statement M
-unfolding patternOf
 pattern-spec =
     tie.close
     (tie.spec
