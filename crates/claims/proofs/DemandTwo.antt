@@ -9,19 +9,19 @@ use lib.Dec.{T}
 use lib.ListN.{length, getD}
 use lib.Ieee.{Float, nan, isNan}
 use lib.Ieee.Scale.{finite}
-use Rattle.real.proofs.RoundedOnce.{plus-once, minus-once, times-once, over-once, opposite-exact, less-exact}
+use Rattle.real.proofs.RoundedOnce.{plus-once, minus-once, times-once, over-once, opposite-exact, less-exact, constants-exact}
 use Rattle.root.proofs.Nearest.{root-nearest, root-of-negative, root-of-nan, root-of-infinity, root-of-zero}
 use Rattle.elementary.proofs.ExpRange.{exp-in, K-le}
 use Rattle.elementary.proofs.LnRange.{ln-finite}
 use Rattle.elementary.proofs.SplitExact.{split-exact}
 use Rattle.kernel.proofs.DistanceRange.{distance-number}
 use Rattle.kernel.proofs.WeightRange.{weights-in, weight-zero}
-use Rattle.kernel.proofs.Published.{weight-rounded, weight-apart, gaussian-exact, bisquare-exact, bisquare-outside, exponential-exact, constants-exact}
+use Rattle.kernel.proofs.Published.{weight-rounded, weight-apart, gaussian-exact, bisquare-exact, bisquare-outside, exponential-exact}
 use Rattle.neighbours.specs.Walk.{between}
 use Rattle.neighbours.proofs.Roots.{ceil-root-least}
 use Rattle.neighbours.proofs.Smallest.{kept-smallest, bandwidth-is-kth, all-met}
 use Rattle.normal.proofs.WeightSum.{weight-sum}
-use Rattle.criterion.proofs.Published.{published-exact, two-exact, aicc-rounded, aicc-refused, aicc-exhausted, aicc-floored}
+use Rattle.criterion.proofs.Published.{published-exact, aicc-rounded, aicc-refused, aicc-exhausted, aicc-floored}
 use Rattle.golden.proofs.Round.{G-is, G2-is}
 use Rattle.golden.proofs.Points.{near-golden, start-section, round-section, residues, golden-section}
 use Rattle.golden.proofs.Kiefer.{round-kiefer, searched, round-narrows, bottom-kept, bottom-stays}
@@ -95,6 +95,7 @@ demand-two =
       bisquare = bisquare-exact;
       bisquare-outside = bisquare-outside;
       exponential = exponential-exact;
+      plus-once = plus-once;
       minus-once = minus-once;
       times-once = times-once;
       over-once = over-once;
@@ -112,7 +113,6 @@ demand-two =
       least-root = ceil-root-least;
       aicc-formula = aicc-rounded;
       aicc-order = published-exact;
-      aicc-once = λ pi root ln. (plus-once, minus-once, times-once, over-once, two-exact);
       aicc-zero = aicc-floored;
       aicc-exhausted = aicc-exhausted;
       aicc-refused = aicc-refused;

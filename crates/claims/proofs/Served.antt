@@ -9,8 +9,11 @@ use lib.ListN.{length, take, drop}
 use lib.Seq.{take-at, drop-at, take-take, take-add, length-take-le}
 use lib.Ieee.{Float}
 use lib.Ieee.Scale.{finite}
+use Rattle.root.specs.Root.{root}
+use Rattle.real.specs.Arithmetic.{rounded}
+use Rattle.criterion.specs.Published.{deviation}
 use Rattle.real.specs.Fold.{turns, range}
-use Rattle.real.specs.Reals.{zero64}
+use Rattle.real.specs.Reals.{zero64, fromCount}
 use Rattle.real.proofs.SignedOrder.{here-or-on}
 use Rattle.kernel.specs.declared.GwrKernel.{GwrKernel}
 use Rattle.setup.specs.declared.GwrBandwidth.{GwrBandwidth}
@@ -25,7 +28,7 @@ use Rattle.local.proofs.Rows.{row-long, put-long}
 use Rattle.local.proofs.Lengths.{beta-eight}
 use Rattle.criterion.specs.declared.Criterion.{Criterion}
 use Rattle.criterion.specs.declared.Criterion.the-variants as criterion
-use Rattle.criterion.specs.Aicc.{realOf, deviation, correctedAic}
+use Rattle.criterion.specs.Aicc.{correctedAic}
 use Rattle.setup.specs.declared.GwrOptions.{GwrOptions}
 use Rattle.gwr.specs.declared.Course.{Course}
 use Rattle.gwr.specs.declared.Course.the-variants.{Going, Stopped}
@@ -156,7 +159,7 @@ module _ (d : Data) (k : GwrKernel) (b : GwrBandwidth) (out : List Float) (room 
 
   decided : (q t : Float) (solves : ℕ) → answerOf (correctedAic (d .n) q t) b solves ≡ decidedBy (correctedAic (d .n) q t) b solves
   unfolding correctedAic
-  decided q t solves = either (λ (c : Criterion). answerOf c b solves ≡ decidedBy c b solves) (finite (deviation (realOf (d .n)) q)) _ _ refl refl
+  decided q t solves = either (λ (c : Criterion). answerOf c b solves ≡ decidedBy c b solves) (finite (deviation rounded root (fromCount (d .n)) q)) _ _ refl refl
 
   answered : (c : Course) (rows : ℕ) (t q : Float) (m searched : ℕ) (w : List Float) → Swept c (d .n) rows t q m w
       → FitAnswered (answerOf (endingOf (sweepAt c rows t q m) (d .n)) b (searched + m)) solve b searched rows (d .n)

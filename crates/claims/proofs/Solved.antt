@@ -11,6 +11,7 @@ use lib.Dec.{T}
 use lib.ListN.{getD}
 use lib.Ieee.{Float, nan}
 use lib.Ieee.Scale.{finite}
+use Rattle.real.specs.Matrix.{Row, Matrix}
 use Rattle.real.specs.Fold.{turns, range}
 use Rattle.real.proofs.SignedOrder.{here-or-on}
 use Rattle.refusal.specs.declared.Refusal.{Refusal}
@@ -24,7 +25,7 @@ use Rattle.local.specs.declared.Estimate.the-variants as estimate
 use Rattle.local.specs.declared.Values.{Values}
 use Rattle.local.specs.declared.Outcome.{Outcome}
 use Rattle.local.specs.declared.Outcome.the-variants as outcome
-use Rattle.local.specs.Inner.{Row, Matrix, inverseCell, allStep, allOf}
+use Rattle.local.specs.Inner.{inverseCell, allStep, allOf}
 use Rattle.local.specs.Estimate.{inverseRowFinite, inverseFinite, coefficientsFinite, coefficientsOf, refusedWith, fromInverse, equationsOf, eliminatedOf}
 use Rattle.local.specs.Estimate as local
 use Rattle.local.specs.Solve.{outcomeOf, solvedUnder, solveLocal, solveLocation}

@@ -6,13 +6,13 @@ use Prim.Native.Nat.{ℕ}
 use native.Mathlib.Omega.{arith}
 use lib.ListN.{length, length-set}
 use lib.Ieee.{Float}
+use Rattle.real.specs.Matrix.{Row, Matrix}
 use Rattle.real.proofs.Fold.{kept}
 use Rattle.setup.specs.declared.GwrBandwidth.{GwrBandwidth}
 use Rattle.setup.specs.declared.Setup.{Setup}
 use Rattle.setup.specs.Data.{Data}
 use Rattle.normal.specs.Weights.{weighStep, weightsBy}
 use Rattle.local.specs.declared.Estimated.{Estimated}
-use Rattle.local.specs.Inner.{Row, Matrix}
 use Rattle.local.specs.Estimate.{inverseFinite, coefficientsFinite, coefficientStep, coefficientsOf, refusedWith, fromInverse, eliminatedOf, fitOf}
 use Rattle.local.specs.Solve.{solvedUnder, solveLocal, solveLocation}
 

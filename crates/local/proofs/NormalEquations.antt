@@ -15,13 +15,14 @@ use lib.Ieee.{fin, binary64, fits, up, down, ofInt, add, sub, mul, div, lt, eq, 
 use lib.Ieee.Digits.{back}
 use lib.Ieee.Fits.{and-l, and-r}
 use borrow.Author.Tests.{eq-eqb, ne-eqb}
+use Rattle.real.specs.Matrix.{Row, Matrix}
 use Rattle.real.specs.Fold.{range}
 use Rattle.real.specs.Reals.{magnitude}
 use Rattle.normal.specs.Normal.{Equations, normalEquations, normalStep, observed, observeStep, rowAdded, cellStep, designRow, designStep, mirroredCell, mirrorStep, augmentedRow, augmentStep, augmentedOf}
 use Rattle.gauss.specs.Gauss.{eliminated, tryStep, gaussStep, reduced, pivotOf, pivotStep, divRow, divStep, lessRow, lessStep, cleared, clearStep, clearRow, cell}
 use Rattle.local.specs.declared.Estimate.the-variants.{Fitted}
 use Rattle.local.specs.declared.Estimated.{Estimated}
-use Rattle.local.specs.Inner.{Row, Matrix, inverseCell, inverseStep, inverseTimes, allStep, allOf}
+use Rattle.local.specs.Inner.{inverseCell, inverseStep, inverseTimes, allStep, allOf}
 use Rattle.local.specs.Estimate.{inverseRowFinite, inverseFinite, coefficientsFinite, coefficientStep, coefficientsOf, fromInverse, equationsOf, eliminatedOf, fitOf}
 use Rattle.local.specs.NormalEquations.{powerUnits, unit, sum, matrixAt, rightAt, inverseAt, betaAt, gramAt, momentAt, SolvesComputed, ExactInverse, Solves, ExactFit, System, Solution, mean, line, plane}
 

@@ -4,6 +4,7 @@ use mathlib.Core.Bool.{Bool, cond}
 use lib.ListN.{getD, set, replicate}
 use lib.Ieee.{Float, nan}
 use lib.Ieee.Scale.{finite}
+use Rattle.real.specs.Matrix.{Row, Matrix}
 use Rattle.real.specs.Fold.{range}
 use Rattle.real.specs.Reals.{zero64}
 use Rattle.refusal.specs.declared.Refusal.{Refusal}
@@ -13,7 +14,7 @@ use Rattle.gauss.specs.Gauss.{eliminated}
 use Rattle.local.specs.declared.Estimate.{Estimate}
 use Rattle.local.specs.declared.Estimate.the-variants.{Fitted, Failed}
 use Rattle.local.specs.declared.Estimated.{Estimated}
-use Rattle.local.specs.Inner.{Row, Matrix, inverseCell, inverseTimes, allOf}
+use Rattle.local.specs.Inner.{inverseCell, inverseTimes, allOf}
 
 -- whether row p of the inverse is finite
 unfoldable pub inverseRowFinite : Matrix → ℕ → ℕ → Bool

@@ -2,17 +2,14 @@
 use Prim.Native.Nat.{ℕ, _+_}
 use mathlib.Core.Bool.{cond}
 use lib.ListN.{getD}
-use lib.Ieee.{Float, nan, binary64, add, sub, mul, div, le, eq, ofBits}
+use lib.Ieee.{Float, nan, binary64, add, sub, mul, div, le, eq}
+use Rattle.real.specs.Matrix.{Row, Matrix}
 use Rattle.real.specs.Fold.{range}
-use Rattle.real.specs.Reals.{zero64, one64, clampUnit}
+use Rattle.real.specs.Reals.{zero64, one64, clampUnit, eps64}
 use Rattle.normal.specs.Normal.{designRow}
 use Rattle.local.specs.declared.Squares.{Squares}
 use Rattle.local.specs.declared.Values.{Values}
-use Rattle.local.specs.Inner.{Row, Matrix, innerOf, inverseTimes}
-
--- `f64::EPSILON`: 2 ^ -52
-abbrev pub eps64 : Float
-eps64 = ofBits binary64 0x3CB0_0000_0000_0000
+use Rattle.local.specs.Inner.{innerOf, inverseTimes}
 
 -- `quad += design[[i, p]] * t_p`, with t_p row p of the inverse times the design row
 unfoldable pub quadStep : Matrix → Row → ℕ → ℕ → Float → Float

@@ -1,18 +1,12 @@
 -- Inner products and conjunctions over the first m cells, as the loops of 000's `solve_local` form them. Definitions only.
 use Prim.Native.Nat.{ℕ, _+_}
 use mathlib.Core.Bool.{Bool, true, _&&_}
-use mathlib.Core.List.{List, []}
+use mathlib.Core.List.{[]}
 use lib.ListN.{getD}
 use lib.Ieee.{Float, nan, binary64, add, mul}
+use Rattle.real.specs.Matrix.{Row, Matrix}
 use Rattle.real.specs.Fold.{range}
 use Rattle.real.specs.Reals.{zero64}
-
-abbrev pub Row : Type 0
-Row = List Float
-
--- rows of cells
-abbrev pub Matrix : Type 0
-Matrix = List (List Float)
 
 -- `acc += u[q] * v[q]`
 unfoldable pub innerStep : Row → Row → ℕ → Float → Float

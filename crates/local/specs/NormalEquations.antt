@@ -7,10 +7,11 @@ use lib.Dec.{eqb}
 use lib.IntN.{ℤ, pos, negsuc, negℤ, _+ℤ_, _*ℤ_}
 use lib.ListN.{getD, replicate}
 use lib.Ieee.{Float, nan, inf, fin, binary64, ofInt}
+use Rattle.real.specs.Matrix.{Row, Matrix}
 use Rattle.real.specs.Reals.{zero64}
 use Rattle.normal.specs.Normal.{Equations, designRow, mirroredCell}
 use Rattle.local.specs.declared.Estimate.the-variants.{Fitted}
-use Rattle.local.specs.Inner.{Row, Matrix, inverseCell}
+use Rattle.local.specs.Inner.{inverseCell}
 use Rattle.local.specs.Estimate.{equationsOf, fitOf}
 
 -- ---- a finite binary64 is a whole number of 2^-1074

@@ -1,6 +1,7 @@
 -- One local solve: a fit at a location, and what it says there. Definitions only.
 use Prim.Native.Nat.{ℕ}
 use lib.Ieee.{Float}
+use Rattle.real.specs.Matrix.{Row}
 use Rattle.setup.specs.declared.GwrBandwidth.{GwrBandwidth}
 use Rattle.neighbours.specs.Bandwidth.{bandwidthOf}
 use Rattle.setup.specs.declared.Setup.{Setup}
@@ -13,7 +14,6 @@ use Rattle.local.specs.declared.Outcome.{Outcome}
 use Rattle.local.specs.declared.Outcome.the-variants.{Found, Refused}
 use Rattle.local.specs.declared.Solved.{Solved}
 use Rattle.local.specs.declared.Values.{Values}
-use Rattle.local.specs.Inner.{Row}
 use Rattle.local.specs.Estimate.{fitOf}
 use Rattle.local.specs.Evaluate.{valuesAt}
 

@@ -15,7 +15,7 @@ use lib.Ieee.Bits.{is-true}
 use Rattle.real.specs.Fold.{turns, range}
 use Rattle.real.proofs.Values.{untrue}
 use Rattle.real.proofs.SignedOrder.{le-tr, nlt→le}
-use Rattle.kernel.proofs.RootOrder.{not-both, either}
+use Rattle.root.proofs.Order.{not-both, either}
 use Rattle.neighbours.specs.Insert.{placeOf, inserted}
 use Rattle.neighbours.specs.Walk.{between}
 use Rattle.neighbours.specs.Smallest.{joinOf, allOf, Ascending}

@@ -14,13 +14,13 @@ use lib.Ieee.{Float, nan, inf, binary64, le, lt, fits, isNan}
 use lib.Ieee.Bits.{is-true}
 use lib.Ieee.Fits.{and-i, and-l, and-r}
 use Rattle.real.specs.Fold.{turns, range}
-use Rattle.real.specs.Reals.{zero64, greater}
+use Rattle.real.specs.Reals.{zero64, greater, eps64, inf64}
 use Rattle.real.proofs.SignedOrder.{nonneg, nlt→le}
-use Rattle.root.specs.Root.{root, inf64}
-use Rattle.kernel.proofs.DistanceRange.{nonneg-number, root-nonneg, squares-nonneg}
-use Rattle.kernel.proofs.RootOrder.{not-both, either, root-order, root-fits, root-above, one-only}
+use Rattle.root.specs.Root.{root}
+use Rattle.root.proofs.Order.{nonneg-number, root-nonneg, not-both, either, root-order, root-fits, root-above, one-only}
+use Rattle.kernel.proofs.DistanceRange.{squares-nonneg}
 use Rattle.kernel.proofs.Reaches.{squares-fits, distance-is, above-nonneg}
-use Rattle.neighbours.specs.Walk.{between, nearestOf, eps64}
+use Rattle.neighbours.specs.Walk.{between, nearestOf}
 use Rattle.neighbours.specs.Smallest.{allOf, kthOf, greatestOf, kthNearest}
 use Rattle.neighbours.specs.Sums.{squaresTo, sumStep, sumsOf, atMost, fewer, isKth}
 use Rattle.neighbours.proofs.Inserts.{getD-any}

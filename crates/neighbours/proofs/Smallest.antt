@@ -12,13 +12,13 @@ use lib.ListN.{length, take, drop, getD, length-take, take-append-drop, List·ge
 use lib.Seq.{length-take-le, take-all, take-nil, take-take, take-append-le, take-append-add, take-add, drop-at, getD-at, getD-take, getD-drop, getD-append-add}
 use lib.Ieee.{Float, nan, inf, fin, le, lt, isNan}
 use Rattle.real.specs.Fold.{turns, range}
-use Rattle.real.specs.Reals.{zero64, greater}
+use Rattle.real.specs.Reals.{zero64, greater, eps64}
 use Rattle.real.proofs.SignedOrder.{le-tr, le-total, nlt→le, here-or-on}
 use lib.Ieee.Scale.{finite}
 use Rattle.kernel.proofs.DistanceRange.{distance-number}
-use Rattle.kernel.proofs.RootOrder.{not-both}
+use Rattle.root.proofs.Order.{not-both}
 use Rattle.neighbours.specs.Insert.{placeOf, inserted}
-use Rattle.neighbours.specs.Walk.{State, keepOf, meetOf, between, passOf, unmet, walkOf, eps64, foundOf, nearestOf}
+use Rattle.neighbours.specs.Walk.{State, keepOf, meetOf, between, passOf, unmet, walkOf, foundOf, nearestOf}
 use Rattle.neighbours.specs.Smallest.{joinOf, allOf, frontOf, metOf, Ascending, kthOf, greatStep, greatestOf, kthNearest}
 use Rattle.neighbours.proofs.Inserts.{place-take, length-inserted, keep-first, keep-second, keep-third}
 

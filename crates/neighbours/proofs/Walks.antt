@@ -8,9 +8,9 @@ use borrow.Author.Tests.{eq-eqb, ne-eqb}
 use lib.ListN.{length, take, getD}
 use lib.Seq.{length-take-le}
 use lib.Ieee.{Float, lt}
-use Rattle.real.specs.Reals.{zero64, greater}
+use Rattle.real.specs.Reals.{zero64, greater, eps64}
 use Rattle.real.proofs.Fold.{Range, none, more, done}
-use Rattle.neighbours.specs.Walk.{State, meetOf, between, passOf, unmet, walkOf, eps64, foundOf, Walked}
+use Rattle.neighbours.specs.Walk.{State, meetOf, between, passOf, unmet, walkOf, foundOf, Walked}
 
 module _ (coords : List Float) (i k j : ℕ) where
   -- the location itself

@@ -6,9 +6,9 @@ use lib.Dec.{T, eqb}
 use lib.ListN.{length, getD}
 use lib.Ieee.{Float, nan, le, lt}
 use Rattle.real.specs.Fold.{range}
-use Rattle.real.specs.Reals.{zero64, greater}
+use Rattle.real.specs.Reals.{zero64, greater, eps64}
 use Rattle.neighbours.specs.Insert.{inserted}
-use Rattle.neighbours.specs.Walk.{between, eps64}
+use Rattle.neighbours.specs.Walk.{between}
 
 -- the list with the distance to pantry j inserted, unless j is the location itself
 unfoldable pub joinOf : List Float → ℕ → ℕ → List Float → List Float

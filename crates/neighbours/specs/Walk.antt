@@ -8,13 +8,9 @@ use lib.IntN.{pos}
 use lib.ListN.{length, take, getD}
 use lib.Ieee.{Float, nan, binary64, lt, ofBits, ofInt}
 use Rattle.real.specs.Fold.{range}
-use Rattle.real.specs.Reals.{zero64, greater}
+use Rattle.real.specs.Reals.{zero64, greater, eps64}
 use Rattle.kernel.specs.Weight.{distanceOf}
 use Rattle.neighbours.specs.Insert.{inserted}
-
--- 2 ^ -52
-abbrev pub eps64 : Float
-eps64 = ofBits binary64 0x3CB0_0000_0000_0000
 
 -- d kept among the k smallest, l those so far: inserted while fewer are held, else in place of the last where it is smaller
 unfoldable pub keepOf : ℕ → Float → List Float → List Float

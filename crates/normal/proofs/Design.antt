@@ -9,9 +9,10 @@ use borrow.Author.Needs.{read-below}
 use lib.ListN.{length, getD, set, replicate, length-set}
 use lib.Seq.{getD-set-same}
 use lib.Ieee.{Float, nan, binary64, add, mul}
+use Rattle.real.specs.Matrix.{Row, Matrix}
 use Rattle.real.specs.Fold.{turns, range}
 use Rattle.real.specs.Reals.{zero64, one64}
-use Rattle.normal.specs.Normal.{Row, Matrix, designStep, designRow, cellStep, rowAdded, observeStep, observed}
+use Rattle.normal.specs.Normal.{designStep, designRow, cellStep, rowAdded, observeStep, observed}
 use Rattle.real.proofs.Fold.{front}
 
 module _ (x : List Float) (p j : ℕ) where

@@ -13,8 +13,8 @@ use lib.Ieee.Scale.{finite}
 use Rattle.real.specs.Fold.{turns, range}
 use Rattle.real.specs.Reals.{zero64, one64}
 use Rattle.kernel.specs.declared.GwrKernel.{GwrKernel}
-use Rattle.kernel.specs.Weight.{weightOf, distanceOf, totalOf, FromZeroToOne}
-use Rattle.kernel.proofs.WeightRange.{weights-in, weight-zero, never-refused}
+use Rattle.kernel.specs.Weight.{weightOf, distanceOf, FromZeroToOne}
+use Rattle.kernel.proofs.WeightRange.{weights-in, weight-zero, never-refused, totalOf}
 use Rattle.kernel.proofs.DistanceRange.{distance-above, distance-own}
 use Rattle.setup.specs.declared.Setup.{Setup}
 use Rattle.setup.specs.Data.{Data}

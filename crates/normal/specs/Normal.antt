@@ -6,16 +6,9 @@ use mathlib.Core.List.{List, [], _∷_}
 use lib.ListN.{getD, set, replicate}
 use lib.Dec.{ltb}
 use lib.Ieee.{Float, nan, binary64, add, mul, eq, ofBits}
+use Rattle.real.specs.Matrix.{Row, Matrix}
 use Rattle.real.specs.Fold.{range}
 use Rattle.real.specs.Reals.{zero64, one64}
-
--- the cells of a row
-abbrev pub Row : Type 0
-Row = List Float
-
--- rows of cells
-abbrev pub Matrix : Type 0
-Matrix = List (List Float)
 
 -- the matrix A, and the right-hand side
 abbrev pub Equations : Type 0

@@ -1,16 +1,14 @@
 // Helpers on f64 that the Rust takes from its library, each with the meaning it has there.
 ghost use mathlib.Core.Path.{_≡_};
-ghost use mathlib.Core.Bool.{false};
 ghost use Prim.Native.Nat.{_<_, _≤_, _^_};
 ghost use lib.Dec.{T};
-ghost use lib.IntN.{pos};
-ghost use lib.Ieee.{inf, binary64, ofInt, lt};
+ghost use lib.Ieee.{binary64, lt, ofBits};
 ghost use lib.Ieee.Scale.{finite};
-ghost use Rattle.real.specs.Reals.{magnitude, greater, lesser, clampUnit, clampCount, roundWhole, roundInto, Into, zero64, big64};
+ghost use Rattle.real.specs.Reals.{magnitude, greater, lesser, clampUnit, clampCount, roundWhole, roundInto, Into, zero64, inf64, fromCount};
 
 // Plus infinity.
 pub fn infinity() -> f64
-    ensures { λ r. ⌜ r ≡ inf false ⌝ }
+    ensures { λ r. ⌜ r ≡ inf64 ⌝ }
 {
     f64::from_bits(0x7FF0_0000_0000_0000)
 }
@@ -18,7 +16,7 @@ pub fn infinity() -> f64
 // A count as a real: exact.
 pub fn from_count(n: usize) -> f64
     requires { ⌜ n < 2 ^ 32 ⌝ }
-    ensures { λ r. ⌜ r ≡ ofInt binary64 (pos n) ⌝ }
+    ensures { λ r. ⌜ r ≡ fromCount n ⌝ }
 {
     (n as u32) as f64
 }
@@ -82,7 +80,7 @@ fn clamp_count(n: u64, lo: usize, hi: usize) -> usize
 // The whole number nearest to x, halves up, for x above 0 and below 2^32: there x less its whole part is exact.
 fn rounded(x: f64) -> u64
     requires { ⌜ T (lt zero64 x) ⌝ }
-    requires { ⌜ T (lt x big64) ⌝ }
+    requires { ⌜ T (lt x (ofBits binary64 0x41F0_0000_0000_0000)) ⌝ }
     ensures { λ r. ⌜ r ≡ roundWhole x ⌝ }
 {
     let t = std::num::truncating_f64_to_u64(x);
