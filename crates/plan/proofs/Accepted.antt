@@ -1,5 +1,5 @@
 -- What an accepted input is like, and that a plan's bandwidth can be used.
-use mathlib.Core.Path.{_≡_, refl, sym, ap, subst, subst⁻¹, _∙_}
+use mathlib.Core.Path.{_≡_, refl, sym, ap, subst⁻¹, _∙_}
 use mathlib.Core.Bool.{Bool, true, false, cond}
 use mathlib.Core.List.{List, _++_}
 use mathlib.Core.Logic.{inl, inr}
@@ -22,13 +22,12 @@ use Rattle.setup.specs.Shape.{setupOf, Sized, Shaped}
 use Rattle.neighbours.specs.Count.{resolvedCount}
 use Rattle.checks.specs.declared.Check.the-variants as check
 use Rattle.checks.specs.Judge.{judge, ruled, NoneOf, Decides}
-use Rattle.checks.proofs.Judge.{judge-append, ruled-append, ruled-refused, ruled-pass, none-head, none-append, decided, decides}
+use Rattle.checks.proofs.Judge.{judge-append, ruled-append, none-head, none-append, decided, decides}
 use Rattle.plan.specs.declared.Plan.{Plan}
 use Rattle.plan.specs.declared.Plan.the-variants.{Settled, Sought}
-use Rattle.plan.specs.declared.Acceptance.{Acceptance}
 use Rattle.plan.specs.declared.Acceptance.the-variants.{Refused, Planned}
 use Rattle.plan.specs.Bounds.{greatestDistance, leastDistance, leastCount, greatestCount, pointOf, bandwidthAt}
-use Rattle.plan.specs.Checks.{shapeTests, valueTests, outputTests, inputTests, seeksDistance, unusableGiven, nothingBetween, optionTestsAt, optionTests, fitTests}
+use Rattle.plan.specs.Checks.{shapeTests, valueTests, outputTests, inputTests, seeksDistance, nothingBetween, optionTestsAt, optionTests, fitTests}
 use Rattle.plan.specs.Plan.{resolveInitialBandwidth, distancePlan, countPlan, searchPlan, planAt, planOf, planOptionsAt, planOptions, acceptOf}
 
 -- ---- lengths, values and room
@@ -160,7 +159,7 @@ module _ (u : Setup) (s : Sized u) where
 -- ---- an input that is accepted
 
 -- q is the plan of an input that no test refuses
-pub record Planned-as (d : Data) (p : ℕ) (o : GwrOptions) (out : ℕ) (q : Plan) : Type 0 where
+pub record PlannedAs (d : Data) (p : ℕ) (o : GwrOptions) (out : ℕ) (q : Plan) : Type 0 where
   pub passed : NoneOf (fitTests d p o out)
   pub accepted : Accepted d p o out
   pub is : q ≡ planOf (setupOf d p o) d
@@ -186,12 +185,12 @@ module _ (d : Data) (p : ℕ) (o : GwrOptions) (out : ℕ) where
   unfolding acceptOf
   accept-decides = decides (fitTests d p o out) refl
 
-  pub accept-planned : {q : Plan} → acceptOf d p o out ≡ Planned q → Planned-as d p o out q
+  pub accept-planned : {q : Plan} → acceptOf d p o out ≡ Planned q → PlannedAs d p o out q
   accept-planned {q} e =
       elim (decided (fitTests d p o out)) [
-        inl f ↦ refused-planned (sym (accept-decides .refused (f .0) (f .1)) ∙ e)
-      | inr n ↦
-          let a = input-accepted d p out o (none-append (inputTests d p out) (optionTests u d) n .0) in
-          let i : q ≡ planOf u d = planned-one (sym e ∙ accept-decides .served n) in
-          record { passed = n; accepted = a; is = i; serves = subst⁻¹ Serves i (plan-serves u (a .shaped .sized) (greatestDistance (d .coords) (u .n))) }
+        | inl f ↦ refused-planned (sym (accept-decides .refused (f .0) (f .1)) ∙ e)
+        | inr n ↦
+            let a = input-accepted d p out o (none-append (inputTests d p out) (optionTests u d) n .0) in
+            let i : q ≡ planOf u d = planned-one (sym e ∙ accept-decides .served n) in
+            record { passed = n; accepted = a; is = i; serves = subst⁻¹ Serves i (plan-serves u (a .shaped .sized) (greatestDistance (d .coords) (u .n))) }
       ]

@@ -4,7 +4,6 @@ use mathlib.Core.Bool.{cond}
 use lib.Dec.{leb}
 use lib.Ieee.{Float, le}
 use Rattle.real.specs.Reals.{fromCount}
-use Rattle.refusal.specs.declared.Refusal.{Refusal}
 use Rattle.setup.specs.declared.GwrBandwidth.{GwrBandwidth}
 use Rattle.setup.specs.declared.GwrBandwidth.the-variants.{Fixed, AdaptiveKnn}
 use Rattle.setup.specs.declared.GwrOptions.{GwrOptions}
