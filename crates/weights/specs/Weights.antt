@@ -5,27 +5,22 @@ use lib.ListN.{getD, set, replicate}
 use lib.Ieee.{Float, nan, binary64, add}
 use Rattle.real.specs.Fold.{range}
 use Rattle.real.specs.Reals.{zero64}
-use Rattle.kernel.specs.declared.GwrKernel.{GwrKernel}
 use Rattle.kernel.specs.Weight.{weightOf, distanceOf}
 use Rattle.setup.specs.declared.Setup.{Setup}
 use Rattle.setup.specs.Data.{Data}
+
+-- `kernel.weight(d, bandwidth)` of observation j, d its distance from the place (east, north), b the bandwidth. No weight is made elsewhere
+unfoldable pub weightFrom : Setup → Data → Float → Float → Float → ℕ → Float
+weightFrom u d east north b j =
+    weightOf (u .options .kernel) (distanceOf east north (getD (d .coords) (2 * j) nan) (getD (d .coords) (2 * j + 1) nan)) b
 
 -- `*w = kw; weight_sum += kw;` for observation j, whose weight is v j
 unfoldable pub weighStep : (ℕ → Float) → ℕ → List Float × Float → List Float × Float
 weighStep v j s = (set (s .0) j (v j), add binary64 (s .1) (v j))
 
--- the weights of n observations into the list w, and their sum in order, for any weight function v
-unfoldable pub weightsBy : (ℕ → Float) → ℕ → List Float → List Float × Float
-weightsBy v n w = range (weighStep v) 0 n (w, zero64)
-
--- `kernel.weight(d, bandwidth)` of observation j, d its distance from the place (east, north), b the bandwidth
-unfoldable pub weightFrom : List Float → Float → Float → GwrKernel → Float → ℕ → Float
-weightFrom coords east north k b j =
-    weightOf k (distanceOf east north (getD coords (2 * j) nan) (getD coords (2 * j + 1) nan)) b
-
 -- `weights` and `weight_sum` seen from a place; numbers past observation n - 1 are zero
 unfoldable pub weightsFrom : Setup → Data → Float → Float → Float → List Float × Float
-weightsFrom u d east north b = weightsBy (weightFrom (d .coords) east north (u .options .kernel) b) (u .n) (replicate 512 zero64)
+weightsFrom u d east north b = range (weighStep (weightFrom u d east north b)) 0 (u .n) (replicate 512 zero64, zero64)
 
 -- seen from location i
 abbrev pub weightsAt : Setup → Data → ℕ → Float → List Float × Float

@@ -1,24 +1,25 @@
 -- 000's refusal of a weight sum, `weight_sum <= 0.0 || !weight_sum.is_finite()`, never occurs: where every coordinate is finite, the sum that `weightsAt` gives is finite and above 0, for every kernel, location and bandwidth. Assumes nothing.
 use mathlib.Core.Path.{_≡_, refl, sym, ap, _∙_, subst}
-use mathlib.Core.Bool.{Bool, true, false, _&&_}
-use mathlib.Core.List.{List, [], _∷_}
+use mathlib.Core.Bool.{false}
+use mathlib.Core.List.{List}
 use Prim.Native.Nat.{ℕ, zero, suc, _+_, _-_, _*_, _≤_, _<_}
-use native.Mathlib.Nat.{zero-add, sub-zero, lt-of-lt-of-le, le-of-eq, le-of-suc-le-suc, not-suc-le-zero}
+use native.Mathlib.Nat.{zero-add, sub-zero, lt-of-lt-of-le, le-of-eq}
 use native.Mathlib.Omega.{arith}
 use lib.Dec.{T}
-use lib.ListN.{length, getD, replicate}
+use lib.ListN.{length, getD}
 use lib.Ieee.{Float, nan, binary64, add, lt, ofBits}
-use lib.Ieee.Fits.{and-l, and-r}
 use lib.Ieee.Scale.{finite}
 use Rattle.real.specs.Fold.{turns, range}
+use Rattle.real.specs.Finite.{allFinite}
 use Rattle.real.specs.Reals.{zero64, one64}
+use Rattle.real.proofs.Finite.{at-finite}
 use Rattle.kernel.specs.declared.GwrKernel.{GwrKernel}
 use Rattle.kernel.specs.Weight.{weightOf, distanceOf, totalOf, FromZeroToOne}
 use Rattle.kernel.proofs.WeightRange.{weights-in, weight-zero, never-refused}
 use Rattle.kernel.proofs.DistanceRange.{distance-above, distance-own}
 use Rattle.setup.specs.declared.Setup.{Setup}
 use Rattle.setup.specs.Data.{Data}
-use Rattle.normal.specs.Weights.{weighStep, weightsBy, weightFrom, weightsFrom, weightsAt}
+use Rattle.weights.specs.Weights.{weighStep, weightFrom, weightsFrom, weightsAt}
 
 -- ---- the fold's second part is the sum in order
 sum-turns : (v : ℕ → Float) (n : ℕ) (w : List Float) → turns (weighStep v) 0 n (w, zero64) .1 ≡ totalOf v n
@@ -26,9 +27,9 @@ unfolding turns weighStep totalOf
 sum-turns v zero w = refl
 sum-turns v (suc n) w = rw (sum-turns v n w, zero-add n)
 
-sum-by : (v : ℕ → Float) (n : ℕ) (w : List Float) → weightsBy v n w .1 ≡ totalOf v n
-unfolding weightsBy range
-sum-by v n w = rw sub-zero (sum-turns v n w)
+sum-from : (u : Setup) (d : Data) (east north b : Float) → weightsFrom u d east north b .1 ≡ totalOf (weightFrom u d east north b) (u .n)
+unfolding weightsFrom range
+sum-from u d east north b = rw sub-zero (sum-turns (weightFrom u d east north b) (u .n) _)
 
 -- ---- the weights seen from a location
 module _ (u : Setup) (d : Data) (i : ℕ) (b : Float) (places : (j : ℕ) → j < 2 * u .n → T (finite (getD (d .coords) j nan))) (inside : i < u .n) where
@@ -36,7 +37,7 @@ module _ (u : Setup) (d : Data) (i : ℕ) (b : Float) (places : (j : ℕ) → j 
   k = u .options .kernel
 
   abbrev weight : ℕ → Float
-  weight = weightFrom (d .coords) (getD (d .coords) (2 * i) nan) (getD (d .coords) (2 * i + 1) nan) k b
+  weight = weightFrom u d (getD (d .coords) (2 * i) nan) (getD (d .coords) (2 * i + 1) nan) b
 
   each-in : (j : ℕ) → j < u .n → FromZeroToOne (weight j)
   unfolding weightFrom
@@ -54,22 +55,12 @@ module _ (u : Setup) (d : Data) (i : ℕ) (b : Float) (places : (j : ℕ) → j 
 
   -- the sum that `weightsAt` gives
   pub weight-sum : u .n ≤ 512 → T (finite (weightsAt u d i b .1)) × T (lt zero64 (weightsAt u d i b .1))
-  unfolding weightsFrom
   weight-sum few =
-      subst (λ (x : Float). T (finite x) × T (lt zero64 x)) (sym (sum-by weight (u .n) (replicate 512 zero64)))
+      subst (λ (x : Float). T (finite x) × T (lt zero64 x)) (sym (sum-from u d _ _ b))
       (never-refused weight (u .n) i few each-in inside own-weight)
 
 -- ---- the same for coordinates given as a list: n pairs, all finite
-abbrev pub everyFinite : List Float → Bool
-everyFinite [] = true
-everyFinite (v ∷ vs) = finite v && everyFinite vs
-
-at-finite : (l : List Float) (j : ℕ) → T (everyFinite l) → j < length l → T (finite (getD l j nan))
-at-finite [] j h k = absurd (not-suc-le-zero k)
-at-finite (v ∷ vs) zero h k = and-l (finite v) (everyFinite vs) h
-at-finite (v ∷ vs) (suc j) h k = at-finite vs j (and-r (finite v) (everyFinite vs) h) (le-of-suc-le-suc k)
-
 pub weight-sum-of :
-    (u : Setup) (d : Data) (i : ℕ) (b : Float) → T (everyFinite (d .coords)) → length (d .coords) ≡ 2 * u .n → i < u .n → u .n ≤ 512
+    (u : Setup) (d : Data) (i : ℕ) (b : Float) → T (allFinite (d .coords)) → length (d .coords) ≡ 2 * u .n → i < u .n → u .n ≤ 512
     → T (finite (weightsAt u d i b .1)) × T (lt zero64 (weightsAt u d i b .1))
 weight-sum-of u d i b h e inside few = weight-sum u d i b (λ j l. at-finite (d .coords) j h (lt-of-lt-of-le l (le-of-eq (sym e)))) inside few

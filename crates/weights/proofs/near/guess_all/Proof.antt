@@ -1,8 +1,8 @@
--- `normal::guess_all` meets its contract.
+-- `weights::near::guess_all` meets its contract.
 use Prim.Native.Nat.{_-_, _≤_}
 use borrow.Author.Needs.{needs}
-use Rattle.normal.proofs.guess_all.Statement.{statement}
-use Rattle.normal.proofs.guess_all.Tie as tie
+use Rattle.weights.proofs.near.guess_all.Statement.{statement}
+use Rattle.weights.proofs.near.guess_all.Tie as tie
 
 abbrev Inv-loop : tie.InvT-loop
 Inv-loop coords n east north reach y₀ j₀ y j = j ≤ n
