@@ -1,14 +1,15 @@
--- `normal::observe` meets its contract.
+-- `normal::equations::observe` meets its contract.
 use borrow.Author.Needs.{needs}
 use Prim.Native.Nat.{_+_, _*_, _-_, _<_}
 use mathlib.Core.Path.{sym, _∙_}
 use native.Mathlib.Omega.{arith}
 use lib.Arith.{digits-lt}
 use Rattle.real.proofs.Fold.{Range, none, more, done}
-use Rattle.normal.specs.Normal.{designRow, observeStep, observed}
-use Rattle.normal.proofs.Design.{design-next, observed-front}
-use Rattle.normal.proofs.observe.Statement.{statement}
-use Rattle.normal.proofs.observe.Tie as tie
+use Rattle.normal.specs.Design.{designRow}
+use Rattle.normal.specs.Equations.{observeStep, observe}
+use Rattle.normal.proofs.DesignCells.{design-next, observe-front}
+use Rattle.normal.proofs.equations.observe.Statement.{statement}
+use Rattle.normal.proofs.equations.observe.Tie as tie
 
 abbrev Inv-loop : tie.InvT-loop
 Inv-loop a₀ rhs₀ w y x n p j own q₀ a rhs q = Range (observeStep w (designRow x p j) y (p + 1)) (a₀, rhs₀) 1 (p + 1) (q + 1) (a, rhs)
@@ -21,7 +22,7 @@ below : (c : tie.In-loop Inv-loop μ-loop) → let s = c .before .before .before
 below c = digits-lt (c .before .before .before .before .before .before .pre .1) (c .loop-test .taken)
 
 pub observe-spec : {M : Type 1} → statement M
-unfolding observeStep observed
+unfolding observeStep observe
 observe-spec =
     tie.close
     (tie.spec Inv-loop μ-loop
@@ -49,7 +50,7 @@ observe-spec =
     (λ c.
     let b = c .before .before .before .before .before in
     let s = b .before .before .before .before .before .args in
-    more (b .loop .inv) (search needs) (rw (c .row-add .ensures, design-next (s .x .now) (s .p) (s .j) (b .loop .q) (search needs) (search needs))))
+    more (b .loop .inv) (search needs) (rw (c .add-row .ensures, design-next (s .x .now) (s .p) (s .j) (b .loop .q) (search needs) (search needs))))
     (λ c.
     let s = c .before .before .before .before .before .before .args in
-    done (c .before .loop .inv) (search needs) ∙ sym (observed-front (s .x .now) (s .p) (s .j) (s .w) (s .y) (s .a .now) (s .rhs .now) ∙ rw (← c .before .before .first-row-add .ensures))))
+    done (c .before .loop .inv) (search needs) ∙ sym (observe-front (s .x .now) (s .p) (s .j) (s .w) (s .y) (s .a .now) (s .rhs .now) ∙ rw (← c .before .before .add-first-row .ensures))))

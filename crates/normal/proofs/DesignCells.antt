@@ -11,7 +11,8 @@ use lib.Seq.{getD-set-same}
 use lib.Ieee.{Float, nan, binary64, add, mul}
 use Rattle.real.specs.Fold.{turns, range}
 use Rattle.real.specs.Reals.{zero64, one64}
-use Rattle.normal.specs.Normal.{Row, Matrix, designStep, designRow, cellStep, rowAdded, observeStep, observed}
+use Rattle.normal.specs.Design.{Row, Matrix, designStep, designRow}
+use Rattle.normal.specs.Equations.{cellStep, addRow, observeStep, observe}
 use Rattle.real.proofs.Fold.{front}
 
 module _ (x : List Float) (p j : ℕ) where
@@ -48,13 +49,13 @@ module _ (x : List Float) (p j : ℕ) where
 
   -- row 0 of the triangle: first the cell of the 1
   pub row-front : (wx : Float) (row : Row)
-      → rowAdded wx (designRow x p j) 0 (p + 1) row ≡ rowAdded wx (designRow x p j) 1 (p + 1) (set row 0 (add binary64 (getD row 0 nan) (mul binary64 wx one64)))
-  unfolding rowAdded cellStep
+      → addRow wx (designRow x p j) 0 (p + 1) row ≡ addRow wx (designRow x p j) 1 (p + 1) (set row 0 (add binary64 (getD row 0 nan) (mul binary64 wx one64)))
+  unfolding addRow cellStep
   row-front wx row = front (cellStep wx (designRow x p j)) 0 row (p + 1) (omega arith) ∙ rw design-first
 
   -- an observation: first row 0
-  pub observed-front : (w y : Float) (a : Matrix) (rhs : Row)
-      → observed w (designRow x p j) y (p + 1) (a, rhs)
-      ≡ range (observeStep w (designRow x p j) y (p + 1)) 1 (p + 1) (set a 0 (rowAdded (mul binary64 w one64) (designRow x p j) 0 (p + 1) (getD a 0 [])), set rhs 0 (add binary64 (getD rhs 0 nan) (mul binary64 (mul binary64 w one64) y)))
-  unfolding observed observeStep
-  observed-front w y a rhs = front (observeStep w (designRow x p j) y (p + 1)) 0 (a, rhs) (p + 1) (omega arith) ∙ rw design-first
+  pub observe-front : (w y : Float) (a : Matrix) (rhs : Row)
+      → observe w (designRow x p j) y (p + 1) (a, rhs)
+      ≡ range (observeStep w (designRow x p j) y (p + 1)) 1 (p + 1) (set a 0 (addRow (mul binary64 w one64) (designRow x p j) 0 (p + 1) (getD a 0 [])), set rhs 0 (add binary64 (getD rhs 0 nan) (mul binary64 (mul binary64 w one64) y)))
+  unfolding observe observeStep
+  observe-front w y a rhs = front (observeStep w (designRow x p j) y (p + 1)) 0 (a, rhs) (p + 1) (omega arith) ∙ rw design-first

@@ -1,10 +1,10 @@
--- `normal::augmented_row` meets its contract.
+-- `normal::augmented::augmented_row` meets its contract.
 use borrow.Author.Needs.{needs}
 use Prim.Native.Nat.{_-_}
 use Rattle.real.proofs.Fold.{Range, none, more, done}
-use Rattle.normal.specs.Normal.{mirrorStep, augmentedRow}
-use Rattle.normal.proofs.augmented_row.Statement.{statement}
-use Rattle.normal.proofs.augmented_row.Tie as tie
+use Rattle.normal.specs.Augmented.{mirrorStep, augmentedRow}
+use Rattle.normal.proofs.augmented.augmented_row.Statement.{statement}
+use Rattle.normal.proofs.augmented.augmented_row.Tie as tie
 
 abbrev Inv-loop : tie.InvT-loop
 Inv-loop a p m r₀ q₀ r q = Range (mirrorStep a p) r₀ 0 m q r
@@ -23,7 +23,7 @@ augmented-row-spec =
     (λ c. search needs)
     (λ c. search needs)
     (λ c. search needs)
-    (λ c. more (c .before .before .loop .inv) (search needs) (rw (c .mirrored .ensures)))
+    (λ c. more (c .before .before .loop .inv) (search needs) (rw (c .mirrored-cell .ensures)))
     (λ c. search needs)
     (λ c. search needs)
     (λ c. search needs)

@@ -1,13 +1,13 @@
--- `normal::design_row` meets its contract.
+-- `normal::design::design_row` meets its contract.
 use borrow.Author.Needs.{needs}
 use Prim.Native.Nat.{_+_, _*_, _-_, _<_}
 use mathlib.Core.Path.{refl}
 use native.Mathlib.Omega.{arith}
 use lib.Arith.{digits-lt}
 use Rattle.real.proofs.Fold.{Range, none, more, done}
-use Rattle.normal.specs.Normal.{designStep, designRow}
-use Rattle.normal.proofs.design_row.Statement.{statement}
-use Rattle.normal.proofs.design_row.Tie as tie
+use Rattle.normal.specs.Design.{designStep, designRow}
+use Rattle.normal.proofs.design.design_row.Statement.{statement}
+use Rattle.normal.proofs.design.design_row.Tie as tie
 
 abbrev Inv-loop : tie.InvT-loop
 Inv-loop x n p j r₀ q₀ r q = Range (designStep x p j) r₀ 0 p q r

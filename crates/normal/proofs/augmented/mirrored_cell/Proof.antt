@@ -1,14 +1,14 @@
--- `normal::mirrored` meets its contract.
+-- `normal::augmented::mirrored_cell` meets its contract.
 use borrow.Author.Needs.{needs}
 use mathlib.Core.Path.{sym}
 use borrow.Author.Tests.{lt-ltb, le-ltb}
-use Rattle.normal.specs.Normal.{mirroredCell}
-use Rattle.normal.proofs.mirrored.Statement.{statement}
-use Rattle.normal.proofs.mirrored.Tie as tie
+use Rattle.normal.specs.Augmented.{mirroredCell}
+use Rattle.normal.proofs.augmented.mirrored_cell.Statement.{statement}
+use Rattle.normal.proofs.augmented.mirrored_cell.Tie as tie
 
-pub mirrored-spec : {M : Type 1} → statement M
+pub mirrored-cell-spec : {M : Type 1} → statement M
 unfolding mirroredCell
-mirrored-spec =
+mirrored-cell-spec =
     tie.close
     (tie.spec
     (λ c. search needs)

@@ -1,13 +1,14 @@
--- `normal::row_add` meets its contract.
+-- `normal::equations::add_row` meets its contract.
 use borrow.Author.Needs.{needs}
 use Prim.Native.Nat.{_+_, _*_, _-_, _<_}
 use native.Mathlib.Omega.{arith}
 use lib.Arith.{digits-lt}
 use Rattle.real.proofs.Fold.{Range, none, more, done}
-use Rattle.normal.specs.Normal.{designRow, cellStep, rowAdded}
-use Rattle.normal.proofs.Design.{design-next}
-use Rattle.normal.proofs.row_add.Statement.{statement}
-use Rattle.normal.proofs.row_add.Tie as tie
+use Rattle.normal.specs.Design.{designRow}
+use Rattle.normal.specs.Equations.{cellStep, addRow}
+use Rattle.normal.proofs.DesignCells.{design-next}
+use Rattle.normal.proofs.equations.add_row.Statement.{statement}
+use Rattle.normal.proofs.equations.add_row.Tie as tie
 
 abbrev Inv-loop : tie.InvT-loop
 Inv-loop row₀ wx x n p j from q₀ row q = Range (cellStep wx (designRow x p j)) row₀ (from + 1) (p + 1) (q + 1) row
@@ -19,9 +20,9 @@ abbrev μ-loop : tie.MeasureT-loop
 below : (c : tie.In-loop Inv-loop μ-loop) → let s = c .before .before in s .args .j * s .args .p + c .before .loop .q < s .args .n * s .args .p
 below c = digits-lt (c .before .before .pre .1) (c .loop-test .taken)
 
-pub row-add-spec : {M : Type 1} → statement M
-unfolding cellStep rowAdded
-row-add-spec =
+pub add-row-spec : {M : Type 1} → statement M
+unfolding cellStep addRow
+add-row-spec =
     tie.close
     (tie.spec Inv-loop μ-loop
     (λ c. none (search needs))
