@@ -1,12 +1,12 @@
--- `local::inverse_times` meets its contract.
+-- `estimate::inverse::inverse_times` meets its contract.
 use borrow.Author.Needs.{needs}
 use Prim.Native.Nat.{_-_}
 use mathlib.Core.Path.{refl}
 use Rattle.real.proofs.Fold.{Range, none, more, done}
 use Rattle.real.specs.Reals.{zero64}
-use Rattle.local.specs.Inner.{inverseCell, inverseStep, inverseTimes}
-use Rattle.local.proofs.inverse_times.Statement.{statement}
-use Rattle.local.proofs.inverse_times.Tie as tie
+use Rattle.estimate.specs.Inverse.{inverseCell, inverseStep, inverseTimes}
+use Rattle.estimate.proofs.inverse.inverse_times.Statement.{statement}
+use Rattle.estimate.proofs.inverse.inverse_times.Tie as tie
 
 abbrev Inv-loop : tie.InvT-loop
 Inv-loop a p m v acc₀ q₀ acc q = Range (inverseStep a m p v) zero64 0 m q acc

@@ -1,4 +1,4 @@
--- `local::all_finite` meets its contract.
+-- `estimate::coefficients_finite` meets its contract.
 use borrow.Author.Needs.{needs}
 use Prim.Native.Nat.{_-_}
 use lib.ListN.{getD}
@@ -7,10 +7,10 @@ use mathlib.Core.Path.{_∙_}
 use Rattle.real.proofs.Fold.{Range, none, more, done}
 use mathlib.Core.Bool.{true}
 use lib.Ieee.Scale.{finite}
-use Rattle.local.specs.Inner.{allStep, allOf}
-use Rattle.local.specs.Estimate.{coefficientsFinite}
-use Rattle.local.proofs.all_finite.Statement.{statement}
-use Rattle.local.proofs.all_finite.Tie as tie
+use Rattle.estimate.specs.Inverse.{allStep, allBelow}
+use Rattle.estimate.specs.Estimate.{coefficientsFinite}
+use Rattle.estimate.proofs.coefficients_finite.Statement.{statement}
+use Rattle.estimate.proofs.coefficients_finite.Tie as tie
 
 abbrev Inv-loop : tie.InvT-loop
 Inv-loop m u good₀ q₀ good q = Range (allStep (λ k. finite (getD u k nan))) true 0 m q good
@@ -18,9 +18,9 @@ Inv-loop m u good₀ q₀ good q = Range (allStep (λ k. finite (getD u k nan)))
 abbrev μ-loop : tie.MeasureT-loop
 μ-loop m u good₀ q₀ good q = m - q
 
-pub all-finite-spec : {M : Type 1} → statement M
-unfolding allStep allOf coefficientsFinite
-all-finite-spec =
+pub coefficients-finite-spec : {M : Type 1} → statement M
+unfolding allStep allBelow coefficientsFinite
+coefficients-finite-spec =
     tie.close
     (tie.spec Inv-loop μ-loop
     (λ c. none (search needs))

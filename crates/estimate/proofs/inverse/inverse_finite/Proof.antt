@@ -1,13 +1,12 @@
--- `local::inverse_finite` meets its contract.
+-- `estimate::inverse::inverse_finite` meets its contract.
 use borrow.Author.Needs.{needs}
 use Prim.Native.Nat.{_-_}
 use mathlib.Core.Path.{_∙_}
 use mathlib.Core.Bool.{true}
 use Rattle.real.proofs.Fold.{Range, none, more, done}
-use Rattle.local.specs.Inner.{allStep, allOf}
-use Rattle.local.specs.Estimate.{inverseRowFinite, inverseFinite}
-use Rattle.local.proofs.inverse_finite.Statement.{statement}
-use Rattle.local.proofs.inverse_finite.Tie as tie
+use Rattle.estimate.specs.Inverse.{allStep, allBelow, inverseRowFinite, inverseFinite}
+use Rattle.estimate.proofs.inverse.inverse_finite.Statement.{statement}
+use Rattle.estimate.proofs.inverse.inverse_finite.Tie as tie
 
 abbrev Inv-loop : tie.InvT-loop
 Inv-loop a m good₀ p₀ good p = Range (allStep (inverseRowFinite a m)) true 0 m p good
@@ -16,7 +15,7 @@ abbrev μ-loop : tie.MeasureT-loop
 μ-loop a m good₀ p₀ good p = m - p
 
 pub inverse-finite-spec : {M : Type 1} → statement M
-unfolding allStep allOf inverseFinite
+unfolding allStep allBelow inverseFinite
 inverse-finite-spec =
     tie.close
     (tie.spec Inv-loop μ-loop
@@ -25,5 +24,5 @@ inverse-finite-spec =
     (λ c κs. search needs)
     (λ c. search needs)
     (λ c. search needs)
-    (λ c. more (c .before .before .before .loop .inv) (search needs) (c .both .ensures ∙ rw (c .before .row-finite .ensures)))
+    (λ c. more (c .before .before .before .loop .inv) (search needs) (c .both .ensures ∙ rw (c .before .inverse-row-finite .ensures)))
     (λ c. done (c .before .loop .inv) (search needs)))

@@ -1,14 +1,13 @@
--- `local::row_finite` meets its contract.
+-- `estimate::inverse::inverse_row_finite` meets its contract.
 use borrow.Author.Needs.{needs}
 use Prim.Native.Nat.{_-_}
 use mathlib.Core.Path.{_∙_}
 use Rattle.real.proofs.Fold.{Range, none, more, done}
 use mathlib.Core.Bool.{true}
 use lib.Ieee.Scale.{finite}
-use Rattle.local.specs.Inner.{inverseCell, allStep, allOf}
-use Rattle.local.specs.Estimate.{inverseRowFinite}
-use Rattle.local.proofs.row_finite.Statement.{statement}
-use Rattle.local.proofs.row_finite.Tie as tie
+use Rattle.estimate.specs.Inverse.{inverseCell, allStep, allBelow, inverseRowFinite}
+use Rattle.estimate.proofs.inverse.inverse_row_finite.Statement.{statement}
+use Rattle.estimate.proofs.inverse.inverse_row_finite.Tie as tie
 
 abbrev Inv-loop : tie.InvT-loop
 Inv-loop a p m good₀ q₀ good q = Range (allStep (λ k. finite (inverseCell a m p k))) true 0 m q good
@@ -16,9 +15,9 @@ Inv-loop a p m good₀ q₀ good q = Range (allStep (λ k. finite (inverseCell a
 abbrev μ-loop : tie.MeasureT-loop
 μ-loop a p m good₀ q₀ good q = m - q
 
-pub row-finite-spec : {M : Type 1} → statement M
-unfolding inverseCell allStep allOf inverseRowFinite
-row-finite-spec =
+pub inverse-row-finite-spec : {M : Type 1} → statement M
+unfolding inverseCell allStep allBelow inverseRowFinite
+inverse-row-finite-spec =
     tie.close
     (tie.spec Inv-loop μ-loop
     (λ c. none (search needs))
