@@ -1,13 +1,13 @@
--- `local::explained` meets its contract.
+-- `local::evaluate::explained_share` meets its contract.
 use borrow.Author.Needs.{needs}
 use mathlib.Core.Path.{sym, _∙_}
-use Rattle.local.specs.Evaluate.{explainedOf}
-use Rattle.local.proofs.explained.Statement.{statement}
-use Rattle.local.proofs.explained.Tie as tie
+use Rattle.local.specs.Evaluate.{explainedShare}
+use Rattle.local.proofs.evaluate.explained_share.Statement.{statement}
+use Rattle.local.proofs.evaluate.explained_share.Tie as tie
 
-pub explained-spec : {M : Type 1} → statement M
-unfolding explainedOf
-explained-spec =
+pub explained-share-spec : {M : Type 1} → statement M
+unfolding explainedShare
+explained-share-spec =
     tie.close
     (tie.spec
     (λ c κs. search needs)

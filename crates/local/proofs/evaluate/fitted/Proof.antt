@@ -1,15 +1,15 @@
--- `local::fitted` meets its contract.
+-- `local::evaluate::fitted` meets its contract.
 use borrow.Author.Needs.{needs}
 use Prim.Native.Nat.{_+_, _*_, _-_, _<_}
 use native.Mathlib.Omega.{arith}
 use lib.Arith.{digits-lt}
 use Rattle.real.proofs.Fold.{Range, none, more, done}
 use Rattle.real.specs.Reals.{zero64}
-use Rattle.normal.specs.Normal.{designRow}
-use Rattle.normal.proofs.Design.{design-first, design-next}
-use Rattle.local.specs.Inner.{innerStep, innerOf}
-use Rattle.local.proofs.fitted.Statement.{statement}
-use Rattle.local.proofs.fitted.Tie as tie
+use Rattle.normal.specs.Design.{designRow}
+use Rattle.local.specs.Evaluate.{innerStep, innerProduct}
+use Rattle.normal.proofs.DesignCells.{design-first, design-next}
+use Rattle.local.proofs.evaluate.fitted.Statement.{statement}
+use Rattle.local.proofs.evaluate.fitted.Tie as tie
 
 abbrev Inv-loop : tie.InvT-loop
 Inv-loop beta x n p j acc₀ q₀ acc q = Range (innerStep beta (designRow x p j)) zero64 0 (p + 1) (q + 1) acc
@@ -22,7 +22,7 @@ below : (c : tie.In-loop Inv-loop μ-loop) → let s = c .before .before .before
 below c = digits-lt (c .before .before .before .pre .1) (c .loop-test .taken)
 
 pub fitted-spec : {M : Type 1} → statement M
-unfolding innerStep innerOf
+unfolding innerStep innerProduct
 fitted-spec =
     tie.close
     (tie.spec Inv-loop μ-loop

@@ -1,11 +1,11 @@
--- `local::leverage` meets its contract.
+-- `local::evaluate::hat_diagonal` meets its contract.
 use borrow.Author.Needs.{needs}
 use Prim.Native.Nat.{_-_}
 use Rattle.real.proofs.Fold.{Range, none, more, done}
 use Rattle.real.specs.Reals.{zero64}
-use Rattle.local.specs.Evaluate.{quadStep, leverageOf}
-use Rattle.local.proofs.leverage.Statement.{statement}
-use Rattle.local.proofs.leverage.Tie as tie
+use Rattle.local.specs.Evaluate.{quadStep, hatDiagonal}
+use Rattle.local.proofs.evaluate.hat_diagonal.Statement.{statement}
+use Rattle.local.proofs.evaluate.hat_diagonal.Tie as tie
 
 abbrev Inv-loop : tie.InvT-loop
 Inv-loop inverse own m row quad₀ p₀ quad p = Range (quadStep inverse row m) zero64 0 m p quad
@@ -13,9 +13,9 @@ Inv-loop inverse own m row quad₀ p₀ quad p = Range (quadStep inverse row m) 
 abbrev μ-loop : tie.MeasureT-loop
 μ-loop inverse own m row quad₀ p₀ quad p = m - p
 
-pub leverage-spec : {M : Type 1} → statement M
-unfolding quadStep leverageOf
-leverage-spec =
+pub hat-diagonal-spec : {M : Type 1} → statement M
+unfolding quadStep hatDiagonal
+hat-diagonal-spec =
     tie.close
     (tie.spec Inv-loop μ-loop
     (λ c. none (search needs))

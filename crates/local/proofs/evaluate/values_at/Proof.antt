@@ -1,12 +1,15 @@
--- `local::evaluate` meets its contract.
+-- `local::evaluate::values_at` meets its contract.
 use borrow.Author.Needs.{needs}
 use Rattle.local.specs.Evaluate.{valuesAt}
-use Rattle.local.proofs.evaluate.Statement.{statement}
-use Rattle.local.proofs.evaluate.Tie as tie
+use Rattle.local.proofs.evaluate.values_at.Statement.{statement}
+use Rattle.local.proofs.evaluate.values_at.Tie as tie
 
-pub evaluate-spec : {M : Type 1} → statement M
+returns : tie.Need-returns
 unfolding valuesAt
-evaluate-spec =
+returns c = rw (c .hat-diagonal .ensures, c .before .before .before .local-r-squared .ensures, c .before .before .before .before .before .fitted .ensures, c .before .before .before .before .before .before .before .design-row .ensures)
+
+pub values-at-spec : {M : Type 1} → statement M
+values-at-spec =
     tie.close
     (tie.spec
     (λ c κs. search needs)
@@ -18,4 +21,4 @@ evaluate-spec =
     (λ c. search needs)
     (λ c. search needs)
     (λ c κs. search needs)
-    (λ c. rw (c .leverage .ensures, c .before .before .local-r-squared .ensures, c .before .before .before .before .fitted .ensures, c .before .before .before .before .before .before .design-row .ensures)))
+    returns)

@@ -1,11 +1,11 @@
--- `local::copy_in` meets its contract.
+-- `local::row::copy_in` meets its contract.
 use Prim.Native.Nat.{_-_}
 use borrow.Author.Needs.{needs}
 use native.Mathlib.Omega.{arith}
 use lib.Ieee.{nan}
 use Rattle.local.proofs.Copies.{Copied, start, next, done}
-use Rattle.local.proofs.copy_in.Statement.{statement}
-use Rattle.local.proofs.copy_in.Tie as tie
+use Rattle.local.proofs.row.copy_in.Statement.{statement}
+use Rattle.local.proofs.row.copy_in.Tie as tie
 
 abbrev Inv-loop : tie.InvT-loop
 Inv-loop out₀ m beta q₀ out q = Copied beta out₀ m q out

@@ -1,12 +1,12 @@
--- `local::put_row` meets its contract.
+-- `local::row::put_row` meets its contract.
 use Prim.Native.Nat.{_+_, _*_, _≤_}
 use borrow.Author.Needs.{needs}
 use native.Mathlib.Omega.{arith}
 use mathlib.Core.Path.{_∙_, ap}
 use Rattle.local.specs.Row.{rowOf, putRow}
 use Rattle.local.proofs.Copies.{row-within, tail-put, tail-long}
-use Rattle.local.proofs.put_row.Statement.{statement}
-use Rattle.local.proofs.put_row.Tie as tie
+use Rattle.local.proofs.row.put_row.Statement.{statement}
+use Rattle.local.proofs.row.put_row.Tie as tie
 
 within : (c : tie.Start) → c .args .i * (c .args .m + 3) + (c .args .m + 3) ≤ c .args .n * (c .args .m + 3)
 within c = row-within (c .args .i) (c .args .n) (c .args .m + 3) (c .pre .1)

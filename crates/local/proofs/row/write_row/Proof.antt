@@ -1,4 +1,4 @@
--- `local::write_row` meets its contract.
+-- `local::row::write_row` meets its contract.
 use borrow.Author.Needs.{needs}
 use native.Mathlib.Omega.{arith}
 use mathlib.Core.Path.{_∙_, ap}
@@ -7,8 +7,8 @@ use lib.Seq.{length-take-le}
 use lib.Ieee.{nan}
 use Rattle.local.specs.Row.{rowOf}
 use Rattle.local.proofs.Copies.{three}
-use Rattle.local.proofs.write_row.Statement.{statement}
-use Rattle.local.proofs.write_row.Tie as tie
+use Rattle.local.proofs.row.write_row.Statement.{statement}
+use Rattle.local.proofs.row.write_row.Tie as tie
 
 pub write-row-spec : {M : Type 1} → statement M
 unfolding rowOf

@@ -1,18 +1,24 @@
--- `local::solve_local` meets its contract.
+-- `local::solve::solve_local` meets its contract.
 use borrow.Author.Needs.{needs}
-use mathlib.Core.Path.{ap, sym, _∙_}
-use mathlib.Core.List.{List}
-use native.Mathlib.Omega.{arith}
-use lib.ListN.{length}
-use lib.Ieee.{Float}
-use Rattle.normal.specs.Weights.{weightsFrom}
-use Rattle.local.specs.Solve.{solveLocal}
-use Rattle.local.proofs.Lengths.{weights-long}
-use Rattle.local.proofs.solve_local.Statement.{statement}
-use Rattle.local.proofs.solve_local.Tie as tie
+use mathlib.Core.Path.{sym}
+use Rattle.local.specs.Solve.{outcomeOf, solveLocal}
+use Rattle.local.proofs.solve.solve_local.Statement.{statement}
+use Rattle.local.proofs.solve.solve_local.Tie as tie
+
+returns : tie.Need-returns
+unfolding outcomeOf solveLocal
+returns c =
+    let at-fit = c .before .before .before .before .before .before in
+    sym (rw (← at-fit .before .before .before .weigh .ensures, ← at-fit .fit-coefficients .ensures, c .before .before .before .enum-told .given .1, ← c .values-at .ensures))
+
+-- the coefficients were not found
+returns-2 : tie.Need-returns-2
+unfolding outcomeOf solveLocal
+returns-2 c =
+    let at-fit = c .before .before .before .before in
+    sym (rw (← at-fit .before .before .before .weigh .ensures, ← at-fit .fit-coefficients .ensures, c .before .found .given .1))
 
 pub solve-local-spec : {M : Type 1} → statement M
-unfolding weightsFrom solveLocal
 solve-local-spec =
     tie.close
     (tie.spec
@@ -24,6 +30,9 @@ solve-local-spec =
     (λ c. search needs)
     (λ c. search needs)
     (λ c κs. search needs)
-    (λ c. sym (ap (λ (s : List Float × Float). length (s .0)) (c .before .weigh .ensures) ∙ weights-long _ _ _))
-    (λ c κs. let l = ap (λ (s : List Float × Float). length (s .0)) (c .before .weigh .ensures) ∙ weights-long _ _ _ in search needs)
-    (λ c. c .solve-under .ensures ∙ sym (rw (← c .before .before .weigh .ensures))))
+    (λ c κs. search needs)
+    (λ c. search needs)
+    (λ c κs. search needs)
+    (λ c. search needs)
+    returns
+    returns-2)
