@@ -18,17 +18,27 @@ Inv-loop m u good₀ q₀ good q = Range (allStep (λ k. finite (getD u k nan)))
 abbrev μ-loop : tie.MeasureT-loop
 μ-loop m u good₀ q₀ good q = m - q
 
+loop-holds : tie.Need-loop-holds Inv-loop μ-loop
+loop-holds c = none (search needs)
+
+loop-again : tie.Need-loop-again Inv-loop μ-loop
+unfolding allStep
+loop-again c = more (c .before .before .before .loop .inv) (search needs) (c .both .ensures ∙ rw (c .before .is-finite .ensures))
+
+returns : tie.Need-returns Inv-loop μ-loop
+unfolding allBelow coefficientsFinite
+returns c = done (c .before .loop .inv) (search needs)
+
 pub coefficients-finite-spec : {M : Type 1} → statement M
-unfolding allStep allBelow coefficientsFinite
 coefficients-finite-spec =
     tie.close
     (tie.spec Inv-loop μ-loop
-    (λ c. none (search needs))
+    loop-holds
     (λ c. search needs)
     (λ c. search needs)
     (λ c κs. search needs)
     (λ c κs. search needs)
     (λ c. search needs)
     (λ c. search needs)
-    (λ c. more (c .before .before .before .loop .inv) (search needs) (c .both .ensures ∙ rw (c .before .is-finite .ensures)))
-    (λ c. done (c .before .loop .inv) (search needs)))
+    loop-again
+    returns)

@@ -12,16 +12,26 @@ Inv-loop a rhs m beta₀ p₀ beta p = Range (coefficientStep a rhs m) beta₀ 0
 abbrev μ-loop : tie.MeasureT-loop
 μ-loop a rhs m beta₀ p₀ beta p = m - p
 
+loop-holds : tie.Need-loop-holds Inv-loop μ-loop
+loop-holds c = none (search needs)
+
+loop-again : tie.Need-loop-again Inv-loop μ-loop
+unfolding coefficientStep
+loop-again c = more (c .before .before .loop .inv) (search needs) (rw (c .inverse-times .ensures))
+
+returns : tie.Need-returns Inv-loop μ-loop
+unfolding coefficientsOf
+returns c = done (c .before .loop .inv) (search needs)
+
 pub coefficients-of-spec : {M : Type 1} → statement M
-unfolding coefficientStep coefficientsOf
 coefficients-of-spec =
     tie.close
     (tie.spec Inv-loop μ-loop
-    (λ c. none (search needs))
+    loop-holds
     (λ c κs. search needs)
     (λ c. search needs)
     (λ c. search needs)
     (λ c. search needs)
     (λ c. search needs)
-    (λ c. more (c .before .before .loop .inv) (search needs) (rw (c .inverse-times .ensures)))
-    (λ c. done (c .before .loop .inv) (search needs)))
+    loop-again
+    returns)

@@ -14,15 +14,25 @@ Inv-loop a m good₀ p₀ good p = Range (allStep (inverseRowFinite a m)) true 0
 abbrev μ-loop : tie.MeasureT-loop
 μ-loop a m good₀ p₀ good p = m - p
 
+loop-holds : tie.Need-loop-holds Inv-loop μ-loop
+loop-holds c = none (search needs)
+
+loop-again : tie.Need-loop-again Inv-loop μ-loop
+unfolding allStep
+loop-again c = more (c .before .before .before .loop .inv) (search needs) (c .both .ensures ∙ rw (c .before .inverse-row-finite .ensures))
+
+returns : tie.Need-returns Inv-loop μ-loop
+unfolding allBelow inverseFinite
+returns c = done (c .before .loop .inv) (search needs)
+
 pub inverse-finite-spec : {M : Type 1} → statement M
-unfolding allStep allBelow inverseFinite
 inverse-finite-spec =
     tie.close
     (tie.spec Inv-loop μ-loop
-    (λ c. none (search needs))
+    loop-holds
     (λ c κs. search needs)
     (λ c κs. search needs)
     (λ c. search needs)
     (λ c. search needs)
-    (λ c. more (c .before .before .before .loop .inv) (search needs) (c .both .ensures ∙ rw (c .before .inverse-row-finite .ensures)))
-    (λ c. done (c .before .loop .inv) (search needs)))
+    loop-again
+    returns)

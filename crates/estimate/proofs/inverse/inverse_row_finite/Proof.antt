@@ -15,12 +15,22 @@ Inv-loop a p m good₀ q₀ good q = Range (allStep (λ k. finite (inverseCell a
 abbrev μ-loop : tie.MeasureT-loop
 μ-loop a p m good₀ q₀ good q = m - q
 
+loop-holds : tie.Need-loop-holds Inv-loop μ-loop
+loop-holds c = none (search needs)
+
+loop-again : tie.Need-loop-again Inv-loop μ-loop
+unfolding inverseCell allStep
+loop-again c = more (c .before .before .before .before .loop .inv) (search needs) (c .both .ensures ∙ rw (c .before .is-finite .ensures))
+
+returns : tie.Need-returns Inv-loop μ-loop
+unfolding allBelow inverseRowFinite
+returns c = done (c .before .loop .inv) (search needs)
+
 pub inverse-row-finite-spec : {M : Type 1} → statement M
-unfolding inverseCell allStep allBelow inverseRowFinite
 inverse-row-finite-spec =
     tie.close
     (tie.spec Inv-loop μ-loop
-    (λ c. none (search needs))
+    loop-holds
     (λ c. search needs)
     (λ c. search needs)
     (λ c. search needs)
@@ -30,5 +40,5 @@ inverse-row-finite-spec =
     (λ c κs. search needs)
     (λ c. search needs)
     (λ c. search needs)
-    (λ c. more (c .before .before .before .before .loop .inv) (search needs) (c .both .ensures ∙ rw (c .before .is-finite .ensures)))
-    (λ c. done (c .before .loop .inv) (search needs)))
+    loop-again
+    returns)

@@ -14,12 +14,22 @@ Inv-loop a p m v acc₀ q₀ acc q = Range (inverseStep a m p v) zero64 0 m q ac
 abbrev μ-loop : tie.MeasureT-loop
 μ-loop a p m v acc₀ q₀ acc q = m - q
 
+loop-holds : tie.Need-loop-holds Inv-loop μ-loop
+loop-holds c = none (search needs)
+
+loop-again : tie.Need-loop-again Inv-loop μ-loop
+unfolding inverseCell inverseStep
+loop-again c = more (c .before .before .loop .inv) (search needs) refl
+
+returns : tie.Need-returns Inv-loop μ-loop
+unfolding inverseTimes
+returns c = done (c .before .loop .inv) (search needs)
+
 pub inverse-times-spec : {M : Type 1} → statement M
-unfolding inverseCell inverseStep inverseTimes
 inverse-times-spec =
     tie.close
     (tie.spec Inv-loop μ-loop
-    (λ c. none (search needs))
+    loop-holds
     (λ c. search needs)
     (λ c. search needs)
     (λ c. search needs)
@@ -29,5 +39,5 @@ inverse-times-spec =
     (λ c. search needs)
     (λ c. search needs)
     (λ c. search needs)
-    (λ c. more (c .before .before .loop .inv) (search needs) refl)
-    (λ c. done (c .before .loop .inv) (search needs)))
+    loop-again
+    returns)

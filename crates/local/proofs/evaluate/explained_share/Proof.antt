@@ -5,11 +5,18 @@ use Rattle.local.specs.Evaluate.{explainedShare}
 use Rattle.local.proofs.evaluate.explained_share.Statement.{statement}
 use Rattle.local.proofs.evaluate.explained_share.Tie as tie
 
-pub explained-share-spec : {M : Type 1} → statement M
+returns : tie.Need-returns
 unfolding explainedShare
+returns c = sym (rw (c .if1 .taken))
+
+returns-2 : tie.Need-returns-2
+unfolding explainedShare
+returns-2 c = c .clamp-unit .ensures ∙ sym (rw (c .before .before .if1 .left))
+
+pub explained-share-spec : {M : Type 1} → statement M
 explained-share-spec =
     tie.close
     (tie.spec
     (λ c κs. search needs)
-    (λ c. sym (rw (c .if1 .taken)))
-    (λ c. c .clamp-unit .ensures ∙ sym (rw (c .before .before .if1 .left))))
+    returns
+    returns-2)

@@ -21,13 +21,24 @@ abbrev μ-loop : tie.MeasureT-loop
 below : (c : tie.In-loop Inv-loop μ-loop) → let s = c .before .before .before in s .args .j * s .args .p + c .before .loop .q < s .args .n * s .args .p
 below c = digits-lt (c .before .before .before .pre .1) (c .loop-test .taken)
 
+loop-holds : tie.Need-loop-holds Inv-loop μ-loop
+unfolding innerStep
+loop-holds c = let s = c .before .args in more (none (search needs)) (search needs) (rw (design-first (s .x .now) (s .p) (s .j)))
+
+loop-again : tie.Need-loop-again Inv-loop μ-loop
+unfolding innerStep
+loop-again c = let b = c .before .before .before in let s = b .before .before .args in more (b .loop .inv) (search needs) (rw (design-next (s .x .now) (s .p) (s .j) (b .loop .q) (search needs) (search needs)))
+
+returns : tie.Need-returns Inv-loop μ-loop
+unfolding innerProduct
+returns c = done (c .before .loop .inv) (search needs)
+
 pub fitted-spec : {M : Type 1} → statement M
-unfolding innerStep innerProduct
 fitted-spec =
     tie.close
     (tie.spec Inv-loop μ-loop
     (λ c. search needs)
-    (λ c. let s = c .before .args in more (none (search needs)) (search needs) (rw (design-first (s .x .now) (s .p) (s .j))))
+    loop-holds
     (λ c. search needs)
     (λ c. search needs)
     (λ c. search needs)
@@ -37,5 +48,5 @@ fitted-spec =
     (λ c. omega (arith, below (c .before .before)))
     (λ c. search needs)
     (λ c. search needs)
-    (λ c. let b = c .before .before .before in let s = b .before .before .args in more (b .loop .inv) (search needs) (rw (design-next (s .x .now) (s .p) (s .j) (b .loop .q) (search needs) (search needs))))
-    (λ c. done (c .before .loop .inv) (search needs)))
+    loop-again
+    returns)

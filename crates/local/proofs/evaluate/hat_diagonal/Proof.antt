@@ -13,16 +13,26 @@ Inv-loop inverse own m row quad₀ p₀ quad p = Range (quadStep inverse row m) 
 abbrev μ-loop : tie.MeasureT-loop
 μ-loop inverse own m row quad₀ p₀ quad p = m - p
 
+loop-holds : tie.Need-loop-holds Inv-loop μ-loop
+loop-holds c = none (search needs)
+
+loop-again : tie.Need-loop-again Inv-loop μ-loop
+unfolding quadStep
+loop-again c = more (c .before .before .loop .inv) (search needs) (rw (c .inverse-times .ensures))
+
+returns : tie.Need-returns Inv-loop μ-loop
+unfolding hatDiagonal
+returns c = rw (done (c .before .loop .inv) (search needs))
+
 pub hat-diagonal-spec : {M : Type 1} → statement M
-unfolding quadStep hatDiagonal
 hat-diagonal-spec =
     tie.close
     (tie.spec Inv-loop μ-loop
-    (λ c. none (search needs))
+    loop-holds
     (λ c. search needs)
     (λ c. search needs)
     (λ c κs. search needs)
     (λ c. search needs)
     (λ c. search needs)
-    (λ c. more (c .before .before .loop .inv) (search needs) (rw (c .inverse-times .ensures)))
-    (λ c. rw (done (c .before .loop .inv) (search needs))))
+    loop-again
+    returns)

@@ -12,16 +12,26 @@ Inv-loop a m r₀ p₀ r p = Range (augmentStep a m) r₀ 0 m p r
 abbrev μ-loop : tie.MeasureT-loop
 μ-loop a m r₀ p₀ r p = m - p
 
+loop-holds : tie.Need-loop-holds Inv-loop μ-loop
+loop-holds c = none (search needs)
+
+loop-again : tie.Need-loop-again Inv-loop μ-loop
+unfolding augmentStep
+loop-again c = more (c .before .before .loop .inv) (search needs) (rw (c .augmented-row .ensures))
+
+returns : tie.Need-returns Inv-loop μ-loop
+unfolding augmentedMatrix
+returns c = done (c .before .loop .inv) (search needs)
+
 pub augmented-matrix-spec : {M : Type 1} → statement M
-unfolding augmentStep augmentedMatrix
 augmented-matrix-spec =
     tie.close
     (tie.spec Inv-loop μ-loop
-    (λ c. none (search needs))
+    loop-holds
     (λ c κs. search needs)
     (λ c. search needs)
     (λ c. search needs)
     (λ c. search needs)
     (λ c. search needs)
-    (λ c. more (c .before .before .loop .inv) (search needs) (rw (c .augmented-row .ensures)))
-    (λ c. done (c .before .loop .inv) (search needs)))
+    loop-again
+    returns)

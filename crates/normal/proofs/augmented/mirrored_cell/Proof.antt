@@ -6,8 +6,15 @@ use Rattle.normal.specs.Augmented.{mirroredCell}
 use Rattle.normal.proofs.augmented.mirrored_cell.Statement.{statement}
 use Rattle.normal.proofs.augmented.mirrored_cell.Tie as tie
 
-pub mirrored-cell-spec : {M : Type 1} → statement M
+returns : tie.Need-returns
 unfolding mirroredCell
+returns c = sym (rw (lt-ltb _ _ (c .before .if1 .taken)))
+
+returns-2 : tie.Need-returns-2
+unfolding mirroredCell
+returns-2 c = sym (rw (le-ltb _ _ (c .before .if1 .left)))
+
+pub mirrored-cell-spec : {M : Type 1} → statement M
 mirrored-cell-spec =
     tie.close
     (tie.spec
@@ -19,5 +26,5 @@ mirrored-cell-spec =
     (λ c. search needs)
     (λ c. search needs)
     (λ c. search needs)
-    (λ c. sym (rw (lt-ltb _ _ (c .before .if1 .taken))))
-    (λ c. sym (rw (le-ltb _ _ (c .before .if1 .left)))))
+    returns
+    returns-2)

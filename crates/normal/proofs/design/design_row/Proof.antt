@@ -19,13 +19,23 @@ abbrev μ-loop : tie.MeasureT-loop
 below : (c : tie.In-loop Inv-loop μ-loop) → let s = c .before .before in s .args .j * s .args .p + c .before .loop .q < s .args .n * s .args .p
 below c = digits-lt (c .before .before .pre .1) (c .loop-test .taken)
 
+loop-holds : tie.Need-loop-holds Inv-loop μ-loop
+loop-holds c = none (search needs)
+
+loop-again : tie.Need-loop-again Inv-loop μ-loop
+unfolding designStep
+loop-again c = more (c .before .before .loop .inv) (search needs) refl
+
+returns : tie.Need-returns Inv-loop μ-loop
+unfolding designRow
+returns c = done (c .before .loop .inv) (search needs)
+
 pub design-row-spec : {M : Type 1} → statement M
-unfolding designStep designRow
 design-row-spec =
     tie.close
     (tie.spec Inv-loop μ-loop
     (λ c. search needs)
-    (λ c. none (search needs))
+    loop-holds
     (λ c. omega (arith, below c))
     (λ c. omega (arith, below c))
     (λ c. omega (arith, below c))
@@ -35,5 +45,5 @@ design-row-spec =
     (λ c. search needs)
     (λ c. search needs)
     (λ c. search needs)
-    (λ c. more (c .before .before .loop .inv) (search needs) refl)
-    (λ c. done (c .before .loop .inv) (search needs)))
+    loop-again
+    returns)

@@ -4,6 +4,9 @@ use Rattle.normal.proofs.DesignCells.{row-front}
 use Rattle.normal.proofs.equations.add_first_row.Statement.{statement}
 use Rattle.normal.proofs.equations.add_first_row.Tie as tie
 
+returns : tie.Need-returns
+returns c = let s = c .before .before .before .before .args in rw (row-front (s .x .now) (s .p) (s .j) (s .wx) (s .row .now)) (c .add-row .ensures)
+
 pub add-first-row-spec : {M : Type 1} → statement M
 add-first-row-spec =
     tie.close
@@ -11,4 +14,4 @@ add-first-row-spec =
     (λ c. search needs)
     (λ c. search needs)
     (λ c κs. search needs)
-    (λ c. let s = c .before .before .before .before .args in rw (row-front (s .x .now) (s .p) (s .j) (s .wx) (s .row .now)) (c .add-row .ensures)))
+    returns)

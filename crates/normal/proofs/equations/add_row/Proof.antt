@@ -20,12 +20,22 @@ abbrev μ-loop : tie.MeasureT-loop
 below : (c : tie.In-loop Inv-loop μ-loop) → let s = c .before .before in s .args .j * s .args .p + c .before .loop .q < s .args .n * s .args .p
 below c = digits-lt (c .before .before .pre .1) (c .loop-test .taken)
 
+loop-holds : tie.Need-loop-holds Inv-loop μ-loop
+loop-holds c = none (search needs)
+
+loop-again : tie.Need-loop-again Inv-loop μ-loop
+unfolding cellStep
+loop-again c = let s = c .before .before .before .before .args in more (c .before .before .before .loop .inv) (search needs) (rw (design-next (s .x .now) (s .p) (s .j) (c .before .before .before .loop .q) (search needs) (search needs)))
+
+returns : tie.Need-returns Inv-loop μ-loop
+unfolding addRow
+returns c = done (c .before .loop .inv) (search needs)
+
 pub add-row-spec : {M : Type 1} → statement M
-unfolding cellStep addRow
 add-row-spec =
     tie.close
     (tie.spec Inv-loop μ-loop
-    (λ c. none (search needs))
+    loop-holds
     (λ c. search needs)
     (λ c. search needs)
     (λ c. search needs)
@@ -38,5 +48,5 @@ add-row-spec =
     (λ c. search needs)
     (λ c. search needs)
     (λ c. search needs)
-    (λ c. let s = c .before .before .before .before .args in more (c .before .before .before .loop .inv) (search needs) (rw (design-next (s .x .now) (s .p) (s .j) (c .before .before .before .loop .q) (search needs) (search needs))))
-    (λ c. done (c .before .loop .inv) (search needs)))
+    loop-again
+    returns)

@@ -21,8 +21,23 @@ abbrev μ-loop : tie.MeasureT-loop
 below : (c : tie.In-loop Inv-loop μ-loop) → let s = c .before .before .before .before .before .before in s .args .j * s .args .p + c .before .loop .q < s .args .n * s .args .p
 below c = digits-lt (c .before .before .before .before .before .before .pre .1) (c .loop-test .taken)
 
+loop-holds : tie.Need-loop-holds Inv-loop μ-loop
+loop-holds c = none (search needs)
+
+loop-again : tie.Need-loop-again Inv-loop μ-loop
+unfolding observeStep
+loop-again c =
+    let b = c .before .before .before .before .before in
+    let s = b .before .before .before .before .before .args in
+    more (b .loop .inv) (search needs) (rw (c .add-row .ensures, design-next (s .x .now) (s .p) (s .j) (b .loop .q) (search needs) (search needs)))
+
+returns : tie.Need-returns Inv-loop μ-loop
+unfolding observe
+returns c =
+    let s = c .before .before .before .before .before .before .args in
+    done (c .before .loop .inv) (search needs) ∙ sym (observe-front (s .x .now) (s .p) (s .j) (s .w) (s .y) (s .a .now) (s .rhs .now) ∙ rw (← c .before .before .add-first-row .ensures))
+
 pub observe-spec : {M : Type 1} → statement M
-unfolding observeStep observe
 observe-spec =
     tie.close
     (tie.spec Inv-loop μ-loop
@@ -30,7 +45,7 @@ observe-spec =
     (λ c. search needs)
     (λ c. search needs)
     (λ c κs. search needs)
-    (λ c. none (search needs))
+    loop-holds
     (λ c. omega (arith, below c))
     (λ c. omega (arith, below c))
     (λ c. omega (arith, below c))
@@ -47,10 +62,5 @@ observe-spec =
     (λ c κs. search needs)
     (λ c. search needs)
     (λ c. search needs)
-    (λ c.
-    let b = c .before .before .before .before .before in
-    let s = b .before .before .before .before .before .args in
-    more (b .loop .inv) (search needs) (rw (c .add-row .ensures, design-next (s .x .now) (s .p) (s .j) (b .loop .q) (search needs) (search needs))))
-    (λ c.
-    let s = c .before .before .before .before .before .before .args in
-    done (c .before .loop .inv) (search needs) ∙ sym (observe-front (s .x .now) (s .p) (s .j) (s .w) (s .y) (s .a .now) (s .rhs .now) ∙ rw (← c .before .before .add-first-row .ensures))))
+    loop-again
+    returns)
