@@ -12,7 +12,6 @@ use Rattle.setup.specs.declared.Setup.{Setup}
 use Rattle.setup.specs.Data.{Data}
 use Rattle.normal.specs.Design.{Row, Matrix}
 use Rattle.normal.specs.Equations.{equationsOf}
-use Rattle.estimate.specs.declared.Estimate.{Estimate}
 use Rattle.estimate.specs.declared.Estimate.the-variants.{Fitted, Failed}
 use Rattle.estimate.specs.declared.Estimated.{Estimated}
 use Rattle.estimate.specs.Inverse.{invertMatrix, inverseTimes, allBelow, inverseFinite}

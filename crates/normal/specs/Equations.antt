@@ -1,7 +1,7 @@
 -- The weighted normal equations of a local fit, as 000's `solve_local` forms them. Definitions, and an example at the end.
 use Prim.Native.Nat.{ℕ, _+_}
 use mathlib.Core.Path.{_≡_, refl}
-use mathlib.Core.Bool.{cond, false}
+use mathlib.Core.Bool.{cond}
 use mathlib.Core.List.{[], _∷_}
 use lib.ListN.{getD, set, replicate}
 use lib.Ieee.{Float, nan, binary64, add, mul, eq, ofBits}

@@ -7,14 +7,14 @@ use native.Mathlib.Nat.{zero-add, sub-zero, lt-of-lt-of-le, le-of-eq}
 use native.Mathlib.Omega.{arith}
 use lib.Dec.{T}
 use lib.ListN.{length, getD}
-use lib.Ieee.{Float, nan, binary64, add, lt, ofBits}
+use lib.Ieee.{Float, nan, lt}
 use lib.Ieee.Scale.{finite}
 use Rattle.real.specs.Fold.{turns, range}
 use Rattle.real.specs.Finite.{allFinite}
 use Rattle.real.specs.Reals.{zero64, one64}
 use Rattle.real.proofs.Finite.{at-finite}
 use Rattle.kernel.specs.declared.GwrKernel.{GwrKernel}
-use Rattle.kernel.specs.Weight.{weightOf, distanceOf, totalOf, FromZeroToOne}
+use Rattle.kernel.specs.Weight.{weightOf, totalOf, FromZeroToOne}
 use Rattle.kernel.proofs.WeightRange.{weights-in, weight-zero, never-refused}
 use Rattle.kernel.proofs.DistanceRange.{distance-above, distance-own}
 use Rattle.setup.specs.declared.Setup.{Setup}

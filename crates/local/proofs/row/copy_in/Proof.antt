@@ -1,7 +1,6 @@
 -- `local::row::copy_in` meets its contract.
 use Prim.Native.Nat.{_-_}
 use borrow.Author.Needs.{needs}
-use native.Mathlib.Omega.{arith}
 use lib.Ieee.{nan}
 use Rattle.local.proofs.Copies.{Copied, start, next, done}
 use Rattle.local.proofs.row.copy_in.Statement.{statement}
