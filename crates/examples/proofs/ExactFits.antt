@@ -1,6 +1,6 @@
 -- Three fits with whole numbers are exact, and their coefficients solve the published normal equations, by computing. Assumes nothing.
 use mathlib.Core.Path.{_≡_, refl, sym, ap, _∙_, subst}
-use mathlib.Core.Bool.{cond, false}
+use mathlib.Core.Bool.{cond}
 use mathlib.Core.List.{List, [], _∷_}
 use Prim.Native.Nat.{ℕ, zero, suc, _+_, _<_}
 use native.Mathlib.Omega.{arith}
@@ -8,12 +8,12 @@ use native.Mathlib.Nat.{not-suc-le-zero}
 use lib.Dec.{eqb}
 use lib.ListN.{getD}
 use lib.IntN.{ℤ, pos, _*ℤ_}
-use lib.Ieee.{binary64, ofInt, add, sub, mul, div, lt, eq, ofBits}
+use lib.Ieee.{ofInt, add, sub, mul, div, lt, eq, ofBits}
 use Rattle.real.specs.Fold.{range}
 use Rattle.real.specs.Reals.{magnitude}
 use Rattle.setup.specs.declared.Setup.{Setup}
 use Rattle.setup.specs.Data.{Data}
-use Rattle.normal.specs.Design.{Row, Matrix, designRow, designStep}
+use Rattle.normal.specs.Design.{Matrix, designRow, designStep}
 use Rattle.normal.specs.Equations.{Equations, equationsOf, normalStep, observe, observeStep, addRow, cellStep}
 use Rattle.normal.specs.Augmented.{mirroredCell, mirrorStep, augmentedRow, augmentStep, augmentedMatrix}
 use Rattle.gauss.specs.Gauss.{eliminated, tryStep, gaussStep, reduced, pivotOf, pivotStep, divRow, divStep, lessRow, lessStep, cleared, clearStep, clearRow, cell}

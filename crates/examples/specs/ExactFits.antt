@@ -1,8 +1,9 @@
 -- Three fits given with whole numbers, whose coefficients are exact and solve the published normal equations. Definitions only.
 use mathlib.Core.Path.{_≡_}
+use mathlib.Core.Bool.{false}
 use mathlib.Core.List.{[], _∷_}
 use Prim.Native.Nat.{ℕ}
-use lib.IntN.{pos, negsuc}
+use lib.IntN.{negsuc}
 use lib.ListN.{replicate}
 use lib.Ieee.{Float, fin, binary64, ofInt}
 use Rattle.real.specs.Reals.{zero64}
@@ -13,6 +14,7 @@ use Rattle.normal.specs.Design.{Row}
 use Rattle.estimate.specs.declared.Estimate.the-variants.{Fitted}
 use Rattle.estimate.specs.Estimate.{fitCoefficients}
 use Rattle.estimate.specs.NormalEquations.{ExactFit, Solves}
+use Rattle.examples.specs.Examples.{whole}
 
 -- n observations, p predictors each in x, responses y and weights w, and the coefficients
 pub record Family : Type 0 where
@@ -36,9 +38,6 @@ pub record ExactlySolved (f : Family) : Type 0 where
   pub exact : ExactFit (familySetup f) (familyData f) (f .w)
   pub solves : Solves (familySetup f) (familyData f) (f .w) (f .beta)
 
-abbrev pub wholeReal : ℕ → Float
-wholeReal k = ofInt binary64 (pos k)
-
 abbrev pub minusOne : Float
 minusOne = ofInt binary64 (negsuc 0)
 
@@ -47,33 +46,33 @@ abbrev pub meanOfTwo : Family
 meanOfTwo =
     record {
       x = [];
-      y = wholeReal 2 ∷ (wholeReal 6 ∷ []);
-      w = wholeReal 1 ∷ (wholeReal 3 ∷ []);
+      y = whole 2 ∷ (whole 6 ∷ []);
+      w = whole 1 ∷ (whole 3 ∷ []);
       n = 2;
       p = 0;
-      beta = wholeReal 5 ∷ replicate 7 zero64;
+      beta = whole 5 ∷ replicate 7 zero64;
     }
 
 -- 2, 3 and 8 at 0, 1 and 2 of weights 1, 2 and 1: the line 1 + 3 x, which meets none of them
 abbrev pub lineOfThree : Family
 lineOfThree =
     record {
-      x = wholeReal 0 ∷ (wholeReal 1 ∷ (wholeReal 2 ∷ []));
-      y = wholeReal 2 ∷ (wholeReal 3 ∷ (wholeReal 8 ∷ []));
-      w = wholeReal 1 ∷ (wholeReal 2 ∷ (wholeReal 1 ∷ []));
+      x = whole 0 ∷ (whole 1 ∷ (whole 2 ∷ []));
+      y = whole 2 ∷ (whole 3 ∷ (whole 8 ∷ []));
+      w = whole 1 ∷ (whole 2 ∷ (whole 1 ∷ []));
       n = 3;
       p = 1;
-      beta = wholeReal 1 ∷ (wholeReal 3 ∷ replicate 6 zero64);
+      beta = whole 1 ∷ (whole 3 ∷ replicate 6 zero64);
     }
 
 -- 1, 2, 4 and 9 at the corners of a square: the plane 4 + 5/2 x + 3/2 y
 abbrev pub planeOfFour : Family
 planeOfFour =
     record {
-      x = minusOne ∷ (minusOne ∷ (minusOne ∷ (wholeReal 1 ∷ (wholeReal 1 ∷ (minusOne ∷ (wholeReal 1 ∷ (wholeReal 1 ∷ [])))))));
-      y = wholeReal 1 ∷ (wholeReal 2 ∷ (wholeReal 4 ∷ (wholeReal 9 ∷ [])));
-      w = replicate 4 (wholeReal 1);
+      x = minusOne ∷ (minusOne ∷ (minusOne ∷ (whole 1 ∷ (whole 1 ∷ (minusOne ∷ (whole 1 ∷ (whole 1 ∷ [])))))));
+      y = whole 1 ∷ (whole 2 ∷ (whole 4 ∷ (whole 9 ∷ [])));
+      w = replicate 4 (whole 1);
       n = 4;
       p = 2;
-      beta = wholeReal 4 ∷ (fin false 5 (negsuc 0) ∷ (fin false 3 (negsuc 0) ∷ replicate 5 zero64));
+      beta = whole 4 ∷ (fin false 5 (negsuc 0) ∷ (fin false 3 (negsuc 0) ∷ replicate 5 zero64));
     }
