@@ -1,9 +1,11 @@
 // Helpers on f64 that the Rust takes from its library, each with the meaning it has there.
 ghost use mathlib.Core.Path.{_≡_};
+ghost use mathlib.Core.Bool.{false, _&&_};
 ghost use Prim.Native.Nat.{_<_, _≤_, _^_};
 ghost use lib.Dec.{T};
 ghost use lib.Ieee.{binary64, lt, ofBits};
 ghost use lib.Ieee.Scale.{finite};
+ghost use Rattle.real.specs.Finite.{allFinite};
 ghost use Rattle.real.specs.Reals.{magnitude, greater, lesser, clampUnit, clampCount, roundWhole, roundInto, Into, zero64, inf64, fromCount};
 
 // Plus infinity.
@@ -26,6 +28,24 @@ pub fn is_finite(x: f64) -> bool
     ensures { λ r. ⌜ r ≡ finite x ⌝ }
 {
     x - x == 0.0
+}
+
+pub fn both(a: bool, b: bool) -> bool
+    ensures { λ r. ⌜ r ≡ (a && b) ⌝ }
+{
+    if a { b } else { false }
+}
+
+// Whether every number of s is finite.
+pub fn all_finite(s: &[f64]) -> bool
+    ensures { λ r. ⌜ r ≡ allFinite (now (s .entry)) ⌝ }
+{
+    let mut good = true;
+    for i in 0..s.len() {
+        let here = is_finite(s[i]);
+        good = both(good, here);
+    }
+    good
 }
 
 // The size of x: Rust's `f64::abs`. Where x <= 0.0 the difference is exact, and it is +0 for a zero of either sign.
