@@ -1,8 +1,8 @@
--- `neighbours::narrow` meets its contract.
+-- `selection::narrow` meets its contract.
 use Prim.Native.Nat.{_-_, _≤_}
 use borrow.Author.Needs.{needs}
-use Rattle.neighbours.proofs.narrow.Statement.{statement}
-use Rattle.neighbours.proofs.narrow.Tie as tie
+use Rattle.selection.proofs.narrow.Statement.{statement}
+use Rattle.selection.proofs.narrow.Tie as tie
 
 abbrev Inv-loop : tie.InvT-loop
 Inv-loop s n m from to first lo₀ hi₀ t₀ lo hi t = t ≤ 16

@@ -1,4 +1,4 @@
--- Counting: the loops of `at_most` and `below`, and what a count says of a list in order. Assumes nothing.
+-- Counting: the loops of `at_most` and `fewer`, and what `is_kth` and `select` make of them. Assumes nothing.
 use mathlib.Core.Path.{_≡_, sym, _∙_, subst}
 use mathlib.Core.Bool.{Bool, true, false}
 use mathlib.Core.List.{List}
@@ -9,7 +9,7 @@ use lib.Dec.{T, ltb}
 use lib.Ieee.{Float, lt, ofBits}
 use Rattle.real.specs.Reals.{zero64}
 use Rattle.real.proofs.Fold.{Range, none, more, done}
-use Rattle.neighbours.specs.Sums.{tallyStep, tally, atMost, fewer, isKth, Selected}
+use Rattle.selection.specs.Kth.{tallyStep, tally, atMost, fewer, isKth}
 
 -- c of the places below j pass
 pub record Counting (p : ℕ → Bool) (n j c : ℕ) : Type 0 where
@@ -43,9 +43,9 @@ module _ (l : List Float) (n m : ℕ) (v : Float) where
   too-few {a} e h = rw (← e, lt-leb m a h)
 
   -- ---- and what is selected by it
-  pub found-one : {b : Bool} → b ≡ isKth l n m v → b ≡ true → Selected l n m v
-  found-one e t = record { is = λ h. subst T (sym (sym e ∙ t)) tt }
+  pub found-one : {b : Bool} → b ≡ isKth l n m v → b ≡ true → T (lt zero64 v) → T (isKth l n m v)
+  found-one e t h = subst T (sym (sym e ∙ t)) tt
 
-pub none-found : (l : List Float) (n m : ℕ) → Selected l n m zero64
+pub none-found : (l : List Float) (n m : ℕ) → T (lt zero64 zero64) → T (isKth l n m zero64)
 unfolding lt ofBits
-none-found l n m = record { is = λ h. absurd h }
+none-found l n m h = absurd h

@@ -1,8 +1,8 @@
--- `neighbours::greatest_below` meets its contract.
+-- `selection::greatest_below` meets its contract.
 use Prim.Native.Nat.{_-_, _≤_}
 use borrow.Author.Needs.{needs}
-use Rattle.neighbours.proofs.greatest_below.Statement.{statement}
-use Rattle.neighbours.proofs.greatest_below.Tie as tie
+use Rattle.selection.proofs.greatest_below.Statement.{statement}
+use Rattle.selection.proofs.greatest_below.Tie as tie
 
 abbrev Inv-loop : tie.InvT-loop
 Inv-loop s n hi g₀ j₀ g j = j ≤ n
