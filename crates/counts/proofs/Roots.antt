@@ -8,7 +8,7 @@ use native.Mathlib.Numerals.{add-one}
 use native.Mathlib.Omega.{arith, min-cases}
 use borrow.Author.Tests.{ltb-true, ltb-false}
 use lib.Dec.{ltb}
-use Rattle.neighbours.specs.Count.{raised, ceilRoot, LeastRoot}
+use Rattle.counts.specs.Count.{rootFrom, ceilRoot, LeastRoot}
 
 -- the square of no number below r reaches n
 pub record Raising (n r : ℕ) : Type 0 where
@@ -35,18 +35,18 @@ higher {n} {r} p h = record { below = go; high = omega (arith, square-above r) }
           | inr g ↦ p .below s g
         ]
 
-pub raised-least : (n m r : ℕ) → Raising n r → n ≤ r + m → LeastRoot n (raised n m r)
-unfolding raised
-raised-least n zero r p h = record { reaches = omega (arith, square-above r); least = p .below }
-raised-least n (suc m) r p h = go (ltb (r * r) n) refl (λ q. raised-least n m (suc r) q (omega arith))
+pub root-from-least : (n m r : ℕ) → Raising n r → n ≤ r + m → LeastRoot n (rootFrom n m r)
+unfolding rootFrom
+root-from-least n zero r p h = record { reaches = omega (arith, square-above r); least = p .below }
+root-from-least n (suc m) r p h = go (ltb (r * r) n) refl (λ q. root-from-least n m (suc r) q (omega arith))
   where
-    go : (b : Bool) → ltb (r * r) n ≡ b → (Raising n (suc r) → LeastRoot n (raised n m (suc r))) → LeastRoot n (cond b (raised n m (suc r)) r)
+    go : (b : Bool) → ltb (r * r) n ≡ b → (Raising n (suc r) → LeastRoot n (rootFrom n m (suc r))) → LeastRoot n (cond b (rootFrom n m (suc r)) r)
     go true e again = again (rw add-one at (higher p (ltb-true (r * r) n e)))
     go false e again = record { reaches = ltb-false (r * r) n e; least = p .below }
 
 pub ceil-root-least : (n : ℕ) → LeastRoot n (ceilRoot n)
 unfolding ceilRoot
-ceil-root-least n = raised-least n n 0 (raising n) (omega arith)
+ceil-root-least n = root-from-least n n 0 (raising n) (omega arith)
 
 -- there is one only
 only : (n a b : ℕ) → LeastRoot n a → LeastRoot n b → a ≡ b
