@@ -1,0 +1,42 @@
+// The sums of squares from a place, among which the k-th smallest is selected.
+ghost use mathlib.Core.Path.{_≡_};
+ghost use Prim.Native.Nat.{_*_, _≤_};
+ghost use lib.ListN.{length};
+ghost use Rattle.neighbours.specs.Sums.{OwnBelow, others, leftOut, squaresFrom, sums};
+use crate::Own;
+
+// How many of n pantries are others.
+pub fn others(own: Own, n: usize) -> usize
+    requires { ⌜ OwnBelow n own ⌝ }
+    ensures { λ r. ⌜ r ≡ others own n ⌝ }
+{
+    match own {
+        Own::At(_) => n - 1,
+        Own::Nobody => n,
+    }
+}
+
+// Infinity in the place of the own pantry.
+fn leave_out(own: Own, s: &mut [f64; 512])
+    requires { ⌜ OwnBelow 512 own ⌝ }
+    ensures { λ _. ⌜ now (s .exit) ≡ leftOut own (now (s .entry)) ⌝ }
+{
+    match own {
+        Own::At(i) => {
+            s[i] = real::infinity();
+        }
+        Own::Nobody => {}
+    }
+}
+
+// The sums of squares from (east, north) to n pantries, into s, its own left out.
+pub fn sums(coords: &[f64], n: usize, east: f64, north: f64, own: Own, s: &mut [f64; 512])
+    requires { ⌜ (length (now coords) ≡ 2 * n) × (n ≤ 512) ⌝ }
+    requires { ⌜ OwnBelow n own ⌝ }
+    ensures { λ _. ⌜ now (s .exit) ≡ sums own (squaresFrom (now (coords .entry)) east north) n (now (s .entry)) ⌝ }
+{
+    for j in 0..n {
+        s[j] = kernel::squares(east, north, coords[2 * j], coords[2 * j + 1]);
+    }
+    leave_out(own, s);
+}
