@@ -1,3 +1,4 @@
 pub mod Inserts
+pub mod Owns
 pub mod Walks
 pub mod Smallest
