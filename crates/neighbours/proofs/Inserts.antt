@@ -46,6 +46,9 @@ module _ (x : Float) (l : List Float) where
       go true h = omega arith
       go false h = omega arith
 
+  pub rank-low : {n p : ℕ} → p ≡ rankOf x l n → p ≤ n
+  rank-low {n} e = omega (arith, rank-within n)
+
   pub rank-take : (m n : ℕ) → m ≤ n → rankOf x (take n l) m ≡ rankOf x l m
   unfolding rankOf
   rank-take zero n h = refl

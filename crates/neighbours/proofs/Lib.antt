@@ -2,3 +2,6 @@ pub mod Inserts
 pub mod Owns
 pub mod Walks
 pub mod Smallest
+pub mod Summed
+pub mod Amounts
+pub mod Selects
