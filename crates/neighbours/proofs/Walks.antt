@@ -26,9 +26,9 @@ module _ (k : ℕ) (x : Float) (w : Walk) where
 
 module _ (own : Own) (d : ℕ → Float) (k j : ℕ) where
   -- its own
-  pub stays : (l : List Float) (held : ℕ) (g : Float) {b : Bool} → b ≡ isOwn own j → b ≡ true → held ≤ length l → Walked (pass own d k j (walkIn l held g)) l l held g
+  pub stays : (l : List Float) (held : ℕ) (g : Float) {b : Bool} → b ≡ isOwn own j → b ≡ true → k ≤ length l → held ≤ k → Walked (pass own d k j (walkIn l held g)) l l held g
   unfolding pass
-  stays l held g e t h = rw (sym e ∙ t) record { kept = record { list = refl; count = sym (length-take-le held l h); long = refl }; greatest = refl }
+  stays l held g e t m h = rw (sym e ∙ t) record { kept = record { list = refl; count = sym (length-take-le held l (omega arith)); long = refl }; greatest = refl }
 
   -- another
   pub goes : (w : Walk) {b : Bool} {x : Float} {entry exit : List Float} {held : ℕ} {g : Float} → b ≡ isOwn own j → b ≡ false → x ≡ d j
