@@ -24,6 +24,16 @@ module _ (k : ℕ) (x : Float) (w : Walk) where
   unfolding meet
   met r e = record { kept = r; greatest = e }
 
+module _ {w : Walk} {entry exit : List Float} {held : ℕ} {g : Float} (r : Walked w entry exit held g) where
+  pub walked-within : held ≤ length exit
+  walked-within = omega (arith, length-take held exit, ap length (r .kept .list), r .kept .count)
+
+  pub walked-is : walkIn exit held g ≡ w
+  walked-is = ap (λ (t : List Float). record { kept = t; greatest = g }) (r .kept .list) ∙ ap (λ (x : Float). record { kept = w .kept; greatest = x }) (r .greatest)
+
+  pub walked-gives : {x : Float} → x ≡ foundBy (walkIn exit held g) → x ≡ foundBy w
+  walked-gives e = e ∙ ap foundBy walked-is
+
 module _ (own : Own) (d : ℕ → Float) (k j : ℕ) where
   -- its own
   pub stays : (l : List Float) (held : ℕ) (g : Float) {b : Bool} → b ≡ isOwn own j → b ≡ true → k ≤ length l → held ≤ k → Walked (pass own d k j (walkIn l held g)) l l held g
@@ -59,11 +69,9 @@ module _ {own : Own} {d : ℕ → Float} {k a n : ℕ} {w : Walk} {l : List Floa
   pub going-on : {cur next : List Float} {held held' : ℕ} {g g' : Float} {j : ℕ} → 1 ≤ k → k ≤ length l → Walking own d k a n w l cur held g j → j < n
       → Walked (pass own d k j (walkIn cur held g)) cur next held' g' → Walking own d k a n w l next held' g' (j + 1)
   going-on {cur} {next} {held} {held'} {g} {g'} {j} o m r h s =
-      let now : Walk = pass own d k j (walkIn cur held g) in
-      let same : walkIn next held' g' ≡ now = ap (λ (t : List Float). record { kept = t; greatest = g' }) (s .kept .list) ∙ ap (λ (x : Float). record { kept = now .kept; greatest = x }) (s .greatest) in
       let before : length (take held cur) ≤ k = omega (arith, length-take held cur, r .few) in
       record {
-        fold = more (r .fold) h same;
+        fold = more (r .fold) h (walked-is s);
         few = omega (arith, s .kept .count, pass-few own d k j (walkIn cur held g) o before);
         long = s .kept .long ∙ r .long;
       }
