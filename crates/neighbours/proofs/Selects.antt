@@ -6,7 +6,7 @@ use Prim.Native.Nat.{ℕ, _+_, _-_, _*_, _≤_, _<_, min}
 use native.Mathlib.Omega.{arith}
 use lib.Dec.{T, leb, ltb, leb→le, ltb→lt}
 use lib.ListN.{length, getD}
-use lib.Ieee.{Float, nan, binary64, le, lt, fits, isNan}
+use lib.Ieee.{Float, nan, binary64, le, lt, fits, isNan, ofBits}
 use lib.Ieee.Bits.{is-true}
 use lib.Ieee.Fits.{and-i, and-l, and-r}
 use Rattle.real.specs.Reals.{zero64, greater}
@@ -42,7 +42,7 @@ module _ (coords : List Float) (east north : Float) (j : ℕ) where
 
 -- ---- v is the m-th smallest sum
 module _ (coords : List Float) (east north : Float) (own : Own) (n k : ℕ) (inside : OwnBelow n own) (o : 1 ≤ k) (l : List Float) (long : n ≤ length l) (v : Float) (f : T (fits binary64 v)) (p : T (lt zero64 v))
-    (q : T (lt v inf64)) (numbers : n ≡ atMost (sums own (squaresFrom coords east north) n l) n inf64) (kth : T (isKth (sums own (squaresFrom coords east north) n l) n (min k (others own n)) v)) where
+    (q : T (lt v inf64)) (numbers : n ≤ atMost (sums own (squaresFrom coords east north) n l) n inf64) (kth : T (isKth (sums own (squaresFrom coords east north) n l) n (min k (others own n)) v)) where
   abbrev square : ℕ → Float
   square = squaresFrom coords east north
 
@@ -63,7 +63,7 @@ module _ (coords : List Float) (east north : Float) (own : Own) (n k : ℕ) (ins
 
   each : (j : ℕ) → j < n → T (le (getD s j nan) inf64)
   unfolding atMost
-  each j h = tally-every (λ q. le (getD s q nan) inf64) n (sym numbers) j h
+  each j h = tally-every (λ q. le (getD s q nan) inf64) n numbers j h
 
   sum-nonneg : (j : ℕ) → j < n → isOwn own j ≡ false → T (nonneg (square j))
   sum-nonneg j h e =
@@ -160,3 +160,18 @@ module _ (coords : List Float) (east north : Float) (own : Own) (n k : ℕ) (ins
       (found-is-kth own d k o n number-at
       ∙ ap (λ (b : Float). cond (lt zero64 b) b (greater (greatestMet own d n) eps64)) the-kth
       ∙ ap (λ (c : Bool). cond c (root v) (greater (greatestMet own d n) eps64)) (is-true (lt zero64 (root v)) (root-above v f p q)))
+
+-- the same from what `kth_sum` knows of its calls
+module _ (coords : List Float) (east north : Float) (own : Own) (n k : ℕ) (l : List Float) (v : Float) where
+  pub kth-root : {top over : Float} {s : List Float} {a b m : ℕ} → OwnBelow n own → 1 ≤ k → n ≤ length l → s ≡ sums own (squaresFrom coords east north) n l
+      → top ≡ inf64 → a ≡ atMost s n top → n ≤ a → b ≡ others own n → m ≡ min k b → (T (lt zero64 v) → T (isKth s n m v)) → fits binary64 v ≡ true → over ≡ inf64 → lt v over ≡ true
+      → T (lt zero64 v) → root v ≡ nearestFrom coords n east north own k
+  kth-root {top} {over} {s} {a} {b} {m} inside o long filled t count all others-are rank is ok end below above =
+      selected-root coords east north own n k inside o l long v (subst T (sym ok) tt) above (subst T (sym (ap (lt v) (sym end) ∙ below)) tt)
+      (subst (λ (c : ℕ). n ≤ c) (count ∙ rw (filled, t)) all)
+      (rw (filled, rank, others-are) at (is above))
+
+-- 0 claims nothing
+pub none-selected : {A : Type 0} → T (lt zero64 zero64) → A
+unfolding lt ofBits
+none-selected h = absurd h

@@ -22,22 +22,16 @@ pub enum Own {
     Nobody,
 }
 
-// The k-th smallest distance from (east, north) to n pantries, its own left out: the root of the k-th smallest sum of squares,
-// where no sum is NaN and that one is above zero and finite.
+// The k-th smallest distance from (east, north) to n pantries, its own left out: the root of the k-th smallest sum of squares, or
+// what the walk gives.
 pub fn nearest_from(coords: &[f64], n: usize, east: f64, north: f64, own: Own, k: usize) -> f64
     requires { ⌜ (length (now coords) ≡ 2 * n) × (n ≤ 512) × (1 ≤ k) × (k ≤ 512) ⌝ }
     requires { ⌜ OwnBelow n own ⌝ }
     ensures { λ r. ⌜ r ≡ nearestFrom (now (coords .entry)) n east north own k ⌝ }
 {
-    let mut s = [0.0; 512];
-    sums::sums(coords, n, east, north, own, &mut s);
-    let v = selection::select(&s, n, real::min_count(k, sums::others(own, n)));
-    if selection::at_most(&s, n, real::infinity()) == n {
-        if v > 0.0 {
-            if v < real::infinity() {
-                return root::sqrt(v);
-            }
-        }
+    let v = sums::kth_sum(coords, n, east, north, own, k);
+    if v > 0.0 {
+        return root::sqrt(v);
     }
     walk::walked(coords, n, east, north, own, k)
 }

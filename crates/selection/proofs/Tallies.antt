@@ -60,5 +60,5 @@ module _ (p : ℕ → Bool) where
       go false e again m = absurd (not-suc-le-zero {n = 0} (omega (arith, turns-most n)))
 
   -- a tally of all is of each
-  pub tally-every : (n : ℕ) → tally p n ≡ n → (j : ℕ) → j < n → T (p j)
+  pub tally-every : (n : ℕ) → n ≤ tally p n → (j : ℕ) → j < n → T (p j)
   tally-every n e j h = let s = tally-turns p n in turns-every n (omega arith) j h
