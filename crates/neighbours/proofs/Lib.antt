@@ -5,3 +5,4 @@ pub mod Smallest
 pub mod Summed
 pub mod Amounts
 pub mod Selects
+pub mod Bandwidths

@@ -171,6 +171,10 @@ module _ (coords : List Float) (east north : Float) (own : Own) (n k : ℕ) (l :
       (subst (λ (c : ℕ). n ≤ c) (count ∙ rw (filled, t)) all)
       (rw (filled, rank, others-are) at (is above))
 
+-- and from what `nearest_from` knows of it
+pub root-found : (v : Float) {r x : Float} → lt zero64 v ≡ true → (T (lt zero64 v) → root v ≡ x) → r ≡ root v → r ≡ x
+root-found v t is e = e ∙ is (subst T (sym t) tt)
+
 -- 0 claims nothing
 pub none-selected : {A : Type 0} → T (lt zero64 zero64) → A
 unfolding lt ofBits
