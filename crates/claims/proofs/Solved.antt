@@ -17,7 +17,7 @@ use Rattle.refusal.specs.declared.Refusal.{Refusal}
 use Rattle.refusal.specs.declared.Refusal.the-variants.{Singular, InverseNotFinite, CoefficientNotFinite}
 use Rattle.kernel.specs.declared.GwrKernel.{GwrKernel}
 use Rattle.setup.specs.declared.GwrBandwidth.{GwrBandwidth}
-use Rattle.neighbours.specs.Bandwidth.{bandwidthOf}
+use Rattle.neighbours.specs.Bandwidth.{localBandwidthDistance}
 use Rattle.setup.specs.Data.{Data}
 use Rattle.normal.specs.Weights.{weightsAt}
 use Rattle.local.specs.declared.Estimate.the-variants as estimate
@@ -134,7 +134,7 @@ as-at (check.Refused r) o h = subst⁻¹ OutcomeAt (h .0) (h .1)
 
 module _ (d : Data) (k : GwrKernel) (b : GwrBandwidth) (i : ℕ) where
   abbrev w : Row
-  w = weightsAt d k i (bandwidthOf (d .coords) (d .n) i b) .0
+  w = weightsAt d k i (localBandwidthDistance (d .coords) (d .n) i b) .0
 
   abbrev m : ℕ
   m = d .p + 1

@@ -3,7 +3,7 @@ use Prim.Native.Nat.{ℕ}
 use lib.Ieee.{Float}
 use Rattle.kernel.specs.declared.GwrKernel.{GwrKernel}
 use Rattle.setup.specs.declared.GwrBandwidth.{GwrBandwidth}
-use Rattle.neighbours.specs.Bandwidth.{bandwidthOf}
+use Rattle.neighbours.specs.Bandwidth.{localBandwidthDistance}
 use Rattle.setup.specs.Data.{Data}
 use Rattle.normal.specs.Weights.{weightsAt}
 use Rattle.local.specs.declared.Estimate.{Estimate}
@@ -41,4 +41,4 @@ solveLocal d k i b =
 
 -- `solve_one`: location i at its own bandwidth, `local_bandwidth_distance`
 unfoldable pub solveLocation : Data → GwrKernel → GwrBandwidth → ℕ → Solved
-solveLocation d k bandwidth i = solveLocal d k i (bandwidthOf (d .coords) (d .n) i bandwidth)
+solveLocation d k bandwidth i = solveLocal d k i (localBandwidthDistance (d .coords) (d .n) i bandwidth)

@@ -361,7 +361,7 @@ pub fn solve_location(
     requires { ⌜ Usable bandwidth ⌝ }
     ensures { λ r. ⌜ r ≡ solveLocation (dataOf (now (coords .entry)) (now (x .entry)) (now (y .entry)) n p) k bandwidth i ⌝ }
 {
-    let b = neighbours::location_bandwidth(coords, n, i, bandwidth);
+    let b = neighbours::local_bandwidth_distance(coords, n, i, bandwidth);
     solve_local(coords, x, y, n, p, k, i, b)
 }
 

@@ -285,13 +285,18 @@ module _ (own : Own) (d : ℕ → Float) (k : ℕ) (o : 1 ≤ k) where
       ∙ ap (λ (b : Float). cond (lt zero64 b) b (greater (w .greatest) eps64)) e
       ∙ ap (λ (g : Float). let b = kthOf k (allDistances own d n) in cond (lt zero64 b) b (greater g eps64)) (kept-greatest n)
 
--- the same from a place, for finite coordinates, whose distances are no NaN
-module _ (coords : List Float) (east north : Float) (own : Own) (k : ℕ) (o : 1 ≤ k) (e : T (finite east)) (f : T (finite north)) where
-  pub nearest-is-kth : (n : ℕ) → ((c : ℕ) → c < 2 * n → T (finite (getD coords c nan))) → nearestFrom coords n east north own k ≡ kthNearest own (distanceFrom coords east north) n k
-  unfolding nearestFrom distanceFrom
-  nearest-is-kth n ok =
-      found-is-kth own (distanceFrom coords east north) k o n
-      (λ j l _. distance-number east north (getD coords (2 * j) nan) (getD coords (2 * j + 1) nan) e f (ok (2 * j) (omega arith)) (ok (2 * j + 1) (omega arith)))
+-- ---- finite coordinates, whose distances are no NaN
+module _ (coords : List Float) (east north : Float) (own : Own) (n : ℕ) (e : T (finite east)) (f : T (finite north)) (ok : (c : ℕ) → c < 2 * n → T (finite (getD coords c nan))) where
+  numbers : (j : ℕ) → j < n → isOwn own j ≡ false → Number (distanceFrom coords east north j)
+  unfolding distanceFrom
+  numbers j l _ = distance-number east north (getD coords (2 * j) nan) (getD coords (2 * j + 1) nan) e f (ok (2 * j) (omega arith)) (ok (2 * j + 1) (omega arith))
+
+  pub nearest-is-kth : (k : ℕ) → 1 ≤ k → nearestFrom coords n east north own k ≡ kthNearest own (distanceFrom coords east north) n k
+  unfolding nearestFrom
+  nearest-is-kth k o = found-is-kth own (distanceFrom coords east north) k o n numbers
+
+  pub all-ascending : Ascending (allDistances own (distanceFrom coords east north) n)
+  all-ascending = kept-smallest own (distanceFrom coords east north) 1 (omega arith) n numbers .up
 
 -- ---- all in order are those met, rearranged
 inserted-perm : (x : Float) (l : List Float) → List·Permᴰ (insert x l) (x ∷ l)

@@ -13,7 +13,7 @@ use Rattle.refusal.specs.declared.Refusal.{Refusal}
 use Rattle.setup.specs.declared.GwrBandwidth.{GwrBandwidth}
 use Rattle.setup.specs.declared.GwrBandwidth.the-variants.{Fixed, AdaptiveKnn}
 use Rattle.setup.specs.Bandwidth.{Usable}
-use Rattle.neighbours.specs.Count.{resolvedCount}
+use Rattle.counts.proofs.Bounds.{resolve-some, resolve-few}
 use Rattle.checks.specs.declared.Check.{Check}
 use Rattle.checks.specs.declared.Check.the-variants as check
 use Rattle.plan.specs.declared.Plan.{Plan}
@@ -132,9 +132,9 @@ module _ (n p : ℕ) (some : 1 ≤ n) (few : n ≤ 512) (narrow : p ≤ 7) where
   bandwidth-usable (AdaptiveKnn k) point = record { some = omega arith; few = omega arith }
 
   given-sound : (w : GwrBandwidth) → Sound (givenPlan w n)
-  unfolding givenPlan resolvedCount
+  unfolding givenPlan
   given-sound (Fixed b) = either (usableDistance b) _ _ tt tt
-  given-sound (AdaptiveKnn k) = record { some = omega arith; few = omega arith }
+  given-sound (AdaptiveKnn k) = record { some = resolve-some k n; few = resolve-few k n few }
 
   search-sound : (coords : List Float) (w : GwrBandwidth) → Sound (searchPlan coords n p w)
   unfolding searchPlan countPlan

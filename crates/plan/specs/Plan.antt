@@ -15,7 +15,7 @@ use Rattle.kernel.specs.Weight.{distanceOf}
 use Rattle.setup.specs.declared.GwrBandwidth.{GwrBandwidth}
 use Rattle.setup.specs.declared.GwrBandwidth.the-variants.{Fixed, AdaptiveKnn}
 use Rattle.setup.specs.Bandwidth.{Usable}
-use Rattle.neighbours.specs.Count.{resolvedCount}
+use Rattle.counts.specs.Count.{resolveCount}
 use Rattle.checks.specs.declared.Check.{Check}
 use Rattle.checks.specs.declared.Check.the-variants as check
 use Rattle.plan.specs.declared.Plan.{Plan}
@@ -90,7 +90,7 @@ pub record BandwidthAt (kind : GwrBandwidth) (point : Float) (n p : ℕ) (r : Gw
 -- 01: 11 unsearched distance not finite or ≤ 0; a count after capping and raising
 unfoldable pub givenPlan : GwrBandwidth → ℕ → Plan
 givenPlan (Fixed b) n = cond (usableDistance b) (Settled (Fixed b)) (Refused UnusableDistance)
-givenPlan (AdaptiveKnn k) n = Settled (AdaptiveKnn (resolvedCount k n))
+givenPlan (AdaptiveKnn k) n = Settled (AdaptiveKnn (resolveCount k n))
 
 -- 01: searching ignores the value given in the options and uses only its kind
 unfoldable pub searchPlan : List Float → ℕ → ℕ → GwrBandwidth → Plan

@@ -165,7 +165,7 @@ pub fn least_count(p: usize) -> usize
     requires { ⌜ p ≤ 7 ⌝ }
     ensures { λ r. ⌜ r ≡ leastCount p ⌝ }
 {
-    neighbours::max_count(p + 1, 2)
+    real::max_count(p + 1, 2)
 }
 
 // The greatest count that a search tries: max(n - 1, L).
@@ -174,7 +174,7 @@ pub fn greatest_count(n: usize, p: usize) -> usize
     ensures { λ r. ⌜ r ≡ greatestCount n p ⌝ }
 {
     let least = least_count(p);
-    neighbours::max_count(n - 1, least)
+    real::max_count(n - 1, least)
 }
 
 // The bandwidth at a point of the search, of the options' kind.
@@ -203,7 +203,7 @@ fn plan_given(bandwidth: GwrBandwidth, n: usize) -> Plan
             Plan::Refused(Refusal::UnusableDistance)
         }
         GwrBandwidth::AdaptiveKnn(k) =>
-            Plan::Settled(GwrBandwidth::AdaptiveKnn(neighbours::resolve_count(k, n))),
+            Plan::Settled(GwrBandwidth::AdaptiveKnn(counts::resolve_count(k, n))),
     }
 }
 

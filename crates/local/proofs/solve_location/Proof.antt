@@ -12,4 +12,4 @@ solve-location-spec =
     (tie.spec
     (λ c κs. search needs)
     (λ c κs. search needs)
-    (λ c. c .solve-local .ensures ∙ rw (c .before .location-bandwidth .ensures)))
+    (λ c. c .solve-local .ensures ∙ rw (c .before .local-bandwidth-distance .ensures)))

@@ -17,4 +17,4 @@ plan-given-spec =
     (λ c. search needs)
     (λ c κs. search needs)
     (λ c. sym (ap (λ (w : GwrBandwidth). givenPlan w (c .before .before .before .before .before .args .n)) (c .before .before .before .bandwidth .given .1) ∙ rw (← c .before .is-usable-distance .ensures, c .if1 .left)))
-    (λ c. sym (ap (λ (w : GwrBandwidth). givenPlan w (c .before .before .before .before .args .n)) (c .before .before .bandwidth2 .given .1) ∙ rw (← c .resolve-count .ensures .is))))
+    (λ c. sym (ap (λ (w : GwrBandwidth). givenPlan w (c .before .before .before .before .args .n)) (c .before .before .bandwidth2 .given .1) ∙ rw (← c .resolve-count .ensures))))
