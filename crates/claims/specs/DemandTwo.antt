@@ -25,9 +25,10 @@ use Rattle.kernel.specs.declared.GwrKernel.the-variants.{Gaussian, Bisquare, Ex
 use Rattle.kernel.specs.Weight.{unusable, weightOf, FromZeroToOne}
 use Rattle.kernel.specs.Published.{kernelFormula, exactWeight, powerOfE, plainWeight}
 use Rattle.setup.specs.declared.GwrBandwidth.{GwrBandwidth}
-use Rattle.neighbours.specs.Count.{ceilRoot, LeastRoot}
-use Rattle.neighbours.specs.Walk.{nearestOf}
-use Rattle.neighbours.specs.Smallest.{allOf, metOf, Ascending, kthNearest}
+use Rattle.counts.specs.Count.{ceilRoot, LeastRoot}
+use Rattle.neighbours.specs.declared.Own.the-variants.{At}
+use Rattle.neighbours.specs.Walk.{between, nearestOf}
+use Rattle.neighbours.specs.Smallest.{allDistances, metDistances, Ascending, kthNearest}
 use Rattle.normal.specs.Weights.{weightsAt}
 use Rattle.local.specs.Estimate as estimate
 use Rattle.local.specs.NormalEquations.{ExactFit, Solves}
@@ -136,13 +137,13 @@ pub record DemandTwo : Type 1 where
       T (finite sum) × T (lt zero64 sum)
   -- ---- neighbours
 
-  -- a location's bandwidth is its k-th smallest distance to the others (`allOf`), if that is zero the greatest of them and EPS
+  -- a location's bandwidth is its k-th smallest distance to the others (`allDistances`), if that is zero the greatest of them and EPS
   pub kth-smallest : (coords x y : List Float) (p : ℕ) (o : GwrOptions) (out : ℕ) → None (inputConditions coords x y p o out) → (i k : ℕ) → i < length coords / 2 → 1 ≤ k
-      → nearestOf coords (length coords / 2) i k ≡ kthNearest coords (length coords / 2) i k
-  -- `allOf` has every one of them, in ascending order
-  pub all-distances : (coords : List Float) (i m : ℕ) → List·Permᴰ (allOf coords i m) (metOf coords i m)
+      → nearestOf coords (length coords / 2) i k ≡ kthNearest (At i) (between coords i) (length coords / 2) k
+  -- `allDistances` has every one of them, in ascending order
+  pub all-distances : (coords : List Float) (i m : ℕ) → List·Permᴰ (allDistances (At i) (between coords i) m) (metDistances (At i) (between coords i) m)
   pub ascending : (coords x y : List Float) (p : ℕ) (o : GwrOptions) (out : ℕ) → None (inputConditions coords x y p o out) → (i : ℕ) → i < length coords / 2
-      → Ascending (allOf coords i (length coords / 2))
+      → Ascending (allDistances (At i) (between coords i) (length coords / 2))
   -- count 0 is the larger of 2 and the least whole number whose square is at least n
   pub least-root : (n : ℕ) → LeastRoot n (ceilRoot n)
   -- ---- AICc: Fotheringham, Brunsdon and Charlton 2002

@@ -1,11 +1,10 @@
 -- One local solve: the weights seen from the location, the coefficients from them, and what these say there. Definitions only.
 use Prim.Native.Nat.{ℕ}
 use lib.Ieee.{Float}
-use Rattle.real.specs.Matrix.{Row}
 use Rattle.setup.specs.declared.GwrBandwidth.{GwrBandwidth}
 use Rattle.setup.specs.declared.Setup.{Setup}
 use Rattle.setup.specs.Data.{Data}
-use Rattle.neighbours.specs.Bandwidth.{bandwidthOf}
+use Rattle.neighbours.specs.Bandwidth.{localBandwidthDistance}
 use Rattle.weights.specs.Weights.{weightsAt}
 use Rattle.estimate.specs.declared.Estimate.{Estimate}
 use Rattle.estimate.specs.declared.Estimate.the-variants.{Fitted, Failed}
@@ -31,4 +30,4 @@ solveLocal u d i b =
 
 -- `solve_one`: location i at its own bandwidth, `local_bandwidth_distance`
 unfoldable pub solveLocation : Setup → Data → GwrBandwidth → ℕ → Solved
-solveLocation u d bandwidth i = solveLocal u d i (bandwidthOf (d .coords) (u .n) i bandwidth)
+solveLocation u d bandwidth i = solveLocal u d i (localBandwidthDistance (d .coords) (u .n) i bandwidth)

@@ -53,6 +53,6 @@ pub fn solve_location(
     requires { ⌜ i < u .n ⌝ }
     ensures { λ r. ⌜ r ≡ solveLocation u (dataOf (now (coords .entry)) (now (x .entry)) (now (y .entry))) bandwidth i ⌝ }
 {
-    let b = neighbours::location_bandwidth(coords, u.n, i, bandwidth);
+    let b = neighbours::local_bandwidth_distance(coords, u.n, i, bandwidth);
     solve_local(coords, x, y, u, i, b)
 }

@@ -19,7 +19,7 @@ use Rattle.setup.specs.declared.Setup.{Setup}
 use Rattle.setup.specs.Bandwidth.{Usable}
 use Rattle.setup.specs.Data.{Data}
 use Rattle.setup.specs.Shape.{setupOf, Sized, Shaped}
-use Rattle.neighbours.specs.Count.{resolvedCount}
+use Rattle.counts.specs.Count.{resolveCount}
 use Rattle.checks.specs.declared.Check.the-variants as check
 use Rattle.checks.specs.Judge.{judge, ruled, NoneOf, Decides}
 use Rattle.checks.proofs.Judge.{judge-append, ruled-append, none-head, none-append, decided, decides}
@@ -143,7 +143,7 @@ module _ (u : Setup) (s : Sized u) where
       go (AdaptiveKnn k) = record { some = omega (arith, s .few, s .narrow); few = omega (arith, s .few, s .narrow) }
 
   given-serves : (w : GwrBandwidth) → Usable (resolveInitialBandwidth w (u .n))
-  unfolding resolveInitialBandwidth resolvedCount
+  unfolding resolveInitialBandwidth resolveCount
   given-serves (Fixed b) = tt
   given-serves (AdaptiveKnn k) = record { some = omega arith; few = omega (arith, s .few) }
 

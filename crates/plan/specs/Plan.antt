@@ -10,7 +10,7 @@ use Rattle.setup.specs.declared.GwrOptions.{GwrOptions}
 use Rattle.setup.specs.declared.Setup.{Setup}
 use Rattle.setup.specs.Data.{Data}
 use Rattle.setup.specs.Shape.{setupOf}
-use Rattle.neighbours.specs.Count.{resolvedCount}
+use Rattle.counts.specs.Count.{resolveCount}
 use Rattle.checks.specs.declared.Check.{Check}
 use Rattle.checks.specs.Judge.{judge, ruled}
 use Rattle.plan.specs.declared.Plan.{Plan}
@@ -23,7 +23,7 @@ use Rattle.plan.specs.Checks.{optionTestsAt, fitTests}
 -- 000's `resolve_initial_bandwidth`: the distance given, or the count, after capping and raising
 unfoldable pub resolveInitialBandwidth : GwrBandwidth → ℕ → GwrBandwidth
 resolveInitialBandwidth (Fixed b) n = Fixed b
-resolveInitialBandwidth (AdaptiveKnn k) n = AdaptiveKnn (resolvedCount k n)
+resolveInitialBandwidth (AdaptiveKnn k) n = AdaptiveKnn (resolveCount k n)
 
 -- 01: if lo ≥ hi the answer is lo with no trial
 unfoldable pub distancePlan : Float → Float → Plan

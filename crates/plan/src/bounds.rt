@@ -61,7 +61,7 @@ pub fn least_count(p: usize) -> usize
     requires { ⌜ p ≤ 7 ⌝ }
     ensures { λ r. ⌜ r ≡ leastCount p ⌝ }
 {
-    neighbours::max_count(p + 1, 2)
+    real::max_count(p + 1, 2)
 }
 
 // The greatest count that a search tries: max(n - 1, L).
@@ -70,7 +70,7 @@ pub fn greatest_count(n: usize, p: usize) -> usize
     ensures { λ r. ⌜ r ≡ greatestCount n p ⌝ }
 {
     let least = least_count(p);
-    neighbours::max_count(n - 1, least)
+    real::max_count(n - 1, least)
 }
 
 // The bandwidth at a point of the search, of the options' kind.

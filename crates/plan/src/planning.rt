@@ -27,7 +27,7 @@ fn resolve_initial_bandwidth(bandwidth: GwrBandwidth, n: usize) -> GwrBandwidth
 {
     match bandwidth {
         GwrBandwidth::Fixed(b) => GwrBandwidth::Fixed(b),
-        GwrBandwidth::AdaptiveKnn(k) => GwrBandwidth::AdaptiveKnn(neighbours::resolve_count(k, n)),
+        GwrBandwidth::AdaptiveKnn(k) => GwrBandwidth::AdaptiveKnn(counts::resolve_count(k, n)),
     }
 }
 

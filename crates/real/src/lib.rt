@@ -1,7 +1,7 @@
 // Helpers on f64 that the Rust takes from its library, each with the meaning it has there.
 ghost use mathlib.Core.Path.{_≡_};
 ghost use mathlib.Core.Bool.{false, _&&_};
-ghost use Prim.Native.Nat.{_<_, _≤_, _^_};
+ghost use Prim.Native.Nat.{_<_, _≤_, _^_, min, max};
 ghost use lib.Dec.{T};
 ghost use lib.Ieee.{binary64, lt, ofBits};
 ghost use lib.Ieee.Scale.{finite};
@@ -121,4 +121,18 @@ pub fn round_into(x: f64, lo: usize, hi: usize) -> usize
         return hi;
     }
     lo
+}
+
+// The greater of two counts.
+pub fn max_count(a: usize, b: usize) -> usize
+    ensures { λ r. ⌜ r ≡ max a b ⌝ }
+{
+    if a < b { b } else { a }
+}
+
+// The lesser of two counts.
+pub fn min_count(a: usize, b: usize) -> usize
+    ensures { λ r. ⌜ r ≡ min a b ⌝ }
+{
+    if b < a { b } else { a }
 }

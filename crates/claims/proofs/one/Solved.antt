@@ -13,7 +13,7 @@ use Rattle.checks.specs.Judge.{judge, Decides}
 use Rattle.setup.specs.declared.GwrBandwidth.{GwrBandwidth}
 use Rattle.setup.specs.declared.Setup.{Setup}
 use Rattle.setup.specs.Data.{Data}
-use Rattle.neighbours.specs.Bandwidth.{bandwidthOf}
+use Rattle.neighbours.specs.Bandwidth.{localBandwidthDistance}
 use Rattle.weights.specs.Weights.{weightsAt}
 use Rattle.normal.specs.Equations.{equationsOf}
 use Rattle.estimate.specs.declared.Estimate.the-variants as estimate
@@ -53,7 +53,7 @@ as-at (check.Refused r) o h = subst⁻¹ OutcomeAt (h .0) (h .1)
 
 module _ (u : Setup) (d : Data) (b : GwrBandwidth) (i : ℕ) where
   abbrev w : Row
-  w = weightsAt u d i (bandwidthOf (d .coords) (u .n) i b) .0
+  w = weightsAt u d i (localBandwidthDistance (d .coords) (u .n) i b) .0
 
   abbrev m : ℕ
   m = u .p + 1
