@@ -14,8 +14,8 @@ use Rattle.real.specs.Finite.{allFinite}
 use Rattle.real.specs.Reals.{zero64, one64}
 use Rattle.real.proofs.Finite.{at-finite}
 use Rattle.kernel.specs.declared.GwrKernel.{GwrKernel}
-use Rattle.kernel.specs.Weight.{weightOf, totalOf, FromZeroToOne}
-use Rattle.kernel.proofs.WeightRange.{weights-in, weight-zero, never-refused}
+use Rattle.kernel.specs.Weight.{weightOf, FromZeroToOne}
+use Rattle.kernel.proofs.WeightRange.{totalOf, weights-in, weight-zero, never-refused}
 use Rattle.kernel.proofs.DistanceRange.{distance-above, distance-own}
 use Rattle.setup.specs.declared.Setup.{Setup}
 use Rattle.setup.specs.Data.{Data}
