@@ -1,3 +1,1 @@
-pub mod Finite
-pub mod Acceptance
-pub mod Ranges
+
