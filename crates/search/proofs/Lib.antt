@@ -1,0 +1,4 @@
+pub mod Trials
+pub mod Memos
+pub mod Searches
+pub mod Literal
