@@ -1,4 +1,4 @@
-pub mod Trials
+pub mod Solves
 pub mod Memos
 pub mod Searches
 pub mod Literal

@@ -4,10 +4,9 @@ use mathlib.Core.Bool.{Bool, true, false, cond, not}
 use Prim.Native.Nat.{ℕ, zero, suc, _+_}
 use lib.Dec.{T, T-not}
 use lib.Ieee.{Float, nan, inf, fin, lt, le, isNan}
-use lib.Ieee.Scale.{finite}
 use Rattle.real.specs.Fold.{turns, range}
 use Rattle.real.specs.Reals.{lesser}
-use Rattle.real.proofs.SignedOrder.{lt-not-le, nlt→le}
+use Rattle.real.proofs.SignedOrder.{apart, nlt→le}
 use Rattle.setup.specs.declared.Setup.{Setup}
 use Rattle.setup.specs.Data.{Data}
 use Rattle.criterion.specs.declared.Criterion.{Criterion}
@@ -22,24 +21,9 @@ use Rattle.search.specs.Trial.{trialOf}
 use Rattle.search.specs.Search.{roundOf, openedOf, goldenOf}
 use Rattle.search.specs.Literal.{Variables, loopBody, loopFor, beforeLoop, goldenSectionMin}
 
--- what is strictly below is not above
-pub apart : (x y : Float) → T (lt x y) → T (le y x) → ⊥
-unfolding lt le
-apart nan y h k = h
-apart (inf s) nan h k = h
-apart (inf true) (inf true) h k = h
-apart (inf true) (inf false) h k = k
-apart (inf false) (inf t) h k = h
-apart (inf true) (fin t n d) h k = k
-apart (inf false) (fin t n d) h k = h
-apart (fin s m e) nan h k = h
-apart (fin s m e) (inf true) h k = h
-apart (fin s m e) (inf false) h k = k
-apart (fin s m e) (fin t n d) h k = lt-not-le (fin s m e) (fin t n d) tt tt h k
-
 -- a score is no NaN
 pub score-num : (c : Criterion) → T (not (isNan (scoreOf c)))
-unfolding scoreOf isNan finite
+unfolding scoreOf isNan
 score-num (criterion.Value nan) = tt
 score-num (criterion.Value (inf s)) = tt
 score-num (criterion.Value (fin s m e)) = tt

@@ -1,5 +1,5 @@
 // The bandwidth search: trials, each a sweep, and golden section over them.
-mod trial; // a trial at a bandwidth
+mod trials; // a trial at a bandwidth
 mod memory; // trials remembered, so that none is worked twice
 mod seeking; // golden section over the trials
 

@@ -8,7 +8,7 @@ ghost use Rattle.search.specs.Memo.{keyOf, Slot, Remembered};
 use setup::GwrBandwidth;
 use setup::Setup;
 use super::Trial;
-use super::trial::evaluate_aicc;
+use super::trials::evaluate_aicc;
 
 // What tells a bandwidth from the others of its kind.
 fn key_of(b: GwrBandwidth) -> u64

@@ -1,5 +1,5 @@
 -- How far a sweep comes, and that rows leave it alone: laws of the definitions, by cases of the course and of the outcome.
-use mathlib.Core.Path.{_≡_, refl, sym, ap, subst, _∙_}
+use mathlib.Core.Path.{_≡_, refl, sym, ap, subst, subst⁻¹, _∙_}
 use mathlib.Core.Bool.{Bool, true, false}
 use mathlib.Core.List.{List, []}
 use Prim.Native.Nat.{ℕ, zero, suc, _+_, _*_, _≤_, _<_}
@@ -117,6 +117,10 @@ module _ (rows : Bool) (u : Setup) (d : Data) (b : GwrBandwidth) where
   pub sweep-solves : (out : List Float) → solvesOf (fitAllLocations rows u d b out .0) ≤ u .n
   unfolding fitAllLocations range
   sweep-solves out = rw sub-zero (let h = solves-turns (u .n) (record { course = Going; sweep = newSweep }, out) in omega (arith, h))
+
+  -- the same of a sweep that was made
+  pub made-few : (s : Swept) (out after : List Float) → _≡_ {A = Swept × List Float} (s, after) (fitAllLocations rows u d b out) → (s .sweep .location ≤ u .n) × (solvesOf s ≤ u .n)
+  made-few s out after e = subst⁻¹ (λ (q : Swept × List Float). (q .0 .sweep .location ≤ u .n) × (solvesOf (q .0) ≤ u .n)) e (sweep-few out, sweep-solves out)
 
 -- ---- with rows or without, a sweep is the same
 module _ (u : Setup) (d : Data) (b : GwrBandwidth) where
