@@ -1,1 +1,4 @@
-
+pub mod Above
+pub mod Meanings
+pub mod Accepted
+pub mod Ranges

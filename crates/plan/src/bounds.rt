@@ -78,7 +78,9 @@ pub fn bandwidth_at(u: Setup, point: f64) -> GwrBandwidth
     requires { ⌜ Sized u ⌝ }
     ensures { λ r. ⌜ r ≡ bandwidthAt u point ⌝ }
 {
-    match u.options.bandwidth {
+    let options = u.options;
+    let kind = options.bandwidth;
+    match kind {
         GwrBandwidth::Fixed(_) => GwrBandwidth::Fixed(point),
         GwrBandwidth::AdaptiveKnn(_) => {
             let least = least_count(u.p);

@@ -71,8 +71,9 @@ fn plan_at(u: Setup, hi: f64) -> Plan
     requires { ⌜ Sized u ⌝ }
     ensures { λ r. ⌜ r ≡ planAt u hi ⌝ }
 {
-    let bandwidth = u.options.bandwidth;
-    if u.options.optimize_bandwidth {
+    let options = u.options;
+    let bandwidth = options.bandwidth;
+    if options.optimize_bandwidth {
         return search_plan(bandwidth, hi, u.n, u.p);
     }
     Plan::Settled(resolve_initial_bandwidth(bandwidth, u.n))
@@ -83,8 +84,8 @@ fn plan_options_at(u: Setup, hi: f64) -> Acceptance
     requires { ⌜ Sized u ⌝ }
     ensures { λ r. ⌜ r ≡ planOptionsAt u hi ⌝ }
 {
-    let options = check_options(u.options, hi);
-    match options {
+    let check = check_options(u.options, hi);
+    match check {
         Check::Refused(r) => Acceptance::Refused(r),
         Check::Pass => Acceptance::Planned(plan_at(u, hi)),
     }
@@ -96,7 +97,9 @@ pub fn plan_options(coords: &[f64], u: Setup) -> Acceptance
     requires { ⌜ Sized u ⌝ }
     ensures { λ r. ⌜ r ≡ planOptionsAt u (greatestDistance (now (coords .entry)) (u .n)) ⌝ }
 {
-    if seeks_distance(u.options.optimize_bandwidth, u.options.bandwidth) {
+    let options = u.options;
+    let bandwidth = options.bandwidth;
+    if seeks_distance(options.optimize_bandwidth, bandwidth) {
         return plan_options_at(u, greatest_distance(coords, u.n));
     }
     plan_options_at(u, 0.0)
