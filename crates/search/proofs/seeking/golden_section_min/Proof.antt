@@ -1,60 +1,57 @@
+-- `search::seeking::golden_section_min`: the search is the fold of its rounds up to r, and the entries in use are right.
+use Prim.Native.Nat.{_-_}
+use borrow.Author.Needs.{needs}
+use denote.Ref.{now}
+use mathlib.Core.Path.{_≡_, ap, _∙_}
+use native.Mathlib.Omega.{arith}
+use Rattle.real.specs.Fold.{range}
+use Rattle.real.proofs.Fold.{Range, none, more, done}
+use Rattle.setup.specs.Data.{dataOf}
+use Rattle.golden.specs.declared.Bracket.{Bracket}
+use Rattle.golden.specs.Golden.{startOf}
+use Rattle.search.specs.declared.Search.{Search}
+use Rattle.search.specs.Memo.{Remembered}
+use Rattle.search.specs.Search.{roundOf, openedOf, goldenOf}
+use Rattle.search.proofs.Solves.{rounds-few}
+use Rattle.search.proofs.Memos.{forgotten}
 use Rattle.search.proofs.seeking.golden_section_min.Statement.{statement}
 use Rattle.search.proofs.seeking.golden_section_min.Tie as tie
-use Rattle.search.proofs.seeking.golden_section_min.Reads as reads
-use Rattle.search.proofs.seeking.golden_section_min.Lts as lts
-use Rattle.golden.proofs.Bracket.start.Reads as start-reads
-use Rattle.search.proofs.seeking.opened_of.Reads as opened-of-reads
-use Rattle.search.proofs.seeking.round_of.Reads as round-of-reads
 
 abbrev Inv-loop : tie.InvT-loop
-Inv-loop coords x y u lo hi tried₀ scores₀ s₀ r₀ tried scores s r = ?
+Inv-loop coords x y u lo hi tried₀ scores₀ s₀ r₀ tried scores s r =
+    let d = dataOf coords x y in
+    Range (roundOf u d) (openedOf u d (startOf lo hi)) 0 100 r s × Remembered u d tried scores
 
 abbrev μ-loop : tie.MeasureT-loop
-μ-loop coords x y u lo hi tried₀ scores₀ s₀ r₀ tried scores s r = ?
+μ-loop coords x y u lo hi tried₀ scores₀ s₀ r₀ tried scores s r = 100 - r
 
--- src/seeking.rt:84:9
-start-requires : tie.Need-start-requires Inv-loop μ-loop
-start-requires c κs = ?
-
--- src/seeking.rt:85:9
 opened-of-requires : tie.Need-opened-of-requires Inv-loop μ-loop
-opened-of-requires c κs = ?
+opened-of-requires c κs = (c .before .before .before .before .before .before .pre, forgotten _ _ _)
 
--- src/seeking.rt:86:5
 loop-holds : tie.Need-loop-holds Inv-loop μ-loop
 loop-holds c = ?
 
--- src/seeking.rt:87:9
 round-of-requires : tie.Need-round-of-requires Inv-loop μ-loop
 round-of-requires c κs = ?
 
--- src/seeking.rt:86:9
-add-r : tie.Need-add-r Inv-loop μ-loop
-add-r c = ?
-
--- src/seeking.rt:86:5
-loop-less : tie.Need-loop-less Inv-loop μ-loop
-loop-less c = ?
-
--- src/seeking.rt:86:5
 loop-again : tie.Need-loop-again Inv-loop μ-loop
-loop-again c = ?
+loop-again c =
+    let e = c .round-of .ensures in
+    (more (c .before .before .before .before .loop .inv .0) (search needs) (e .0), e .1)
 
--- src/seeking.rt:71:1
 returns : tie.Need-returns Inv-loop μ-loop
-returns c = ?
+unfolding goldenOf
+returns c = done (c .before .loop .inv .0) (search needs)
 
 pub golden-section-min-spec : {M : Type 1} → statement M
 golden-section-min-spec =
     tie.close
-    (tie.spec
-    Inv-loop
-    μ-loop
-    start-requires
+    (tie.spec Inv-loop μ-loop
+    (λ c κs. search needs)
     opened-of-requires
     loop-holds
     round-of-requires
-    add-r
-    loop-less
+    (λ c. search needs)
+    (λ c. search needs)
     loop-again
     returns)

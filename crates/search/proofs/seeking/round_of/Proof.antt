@@ -1,49 +1,24 @@
+-- `search::seeking::round_of`: nothing once the search is over, else a trial at the aim.
 use borrow.Author.Needs.{needs}
+use mathlib.Core.Path.{ap}
+use native.Mathlib.Omega.{arith}
+use Rattle.search.specs.declared.Trial.{Trial}
+use Rattle.search.proofs.Solves.{trial-few}
+use Rattle.search.proofs.Searches.{round-over, round-on}
 use Rattle.search.proofs.seeking.round_of.Statement.{statement}
 use Rattle.search.proofs.seeking.round_of.Tie as tie
-use Rattle.search.proofs.seeking.round_of.Reads as reads
-use Rattle.search.proofs.seeking.round_of.Lts as lts
-use Rattle.golden.proofs.Bracket.aim.Reads as aim-reads
-use Rattle.golden.proofs.Bracket.is_tight.Reads as is-tight-reads
-use Rattle.golden.proofs.Bracket.narrow.Reads as narrow-reads
-use Rattle.search.proofs.memory.trial_of.Reads as trial-of-reads
 
--- src/seeking.rt:58:9
 returns : tie.Need-returns
-returns c = ?
+returns c = (round-over _ _ _ _ (c .if1 .taken), c .before .before .before .before .pre .1 .0)
 
--- src/seeking.rt:61:39
-aim-requires : tie.Need-aim-requires
-aim-requires c κs = search needs
-
--- src/seeking.rt:61:9
-trial-of-requires : tie.Need-trial-of-requires
-trial-of-requires c κs = search needs
-
--- src/seeking.rt:62:9
-narrow-requires : tie.Need-narrow-requires
-narrow-requires c κs = search needs
-
--- src/seeking.rt:65:15
-is-tight-requires : tie.Need-is-tight-requires
-is-tight-requires c κs = search needs
-
--- src/seeking.rt:66:17
 add-t16 : tie.Need-add-t16
 add-t16 c = ?
 
--- src/seeking.rt:41:1
 returns-2 : tie.Need-returns-2
-returns-2 c = ?
+returns-2 c =
+    let s = c .before .before .before .before in
+    let e = s .trial-of .ensures in
+    (round-on _ _ _ _ _ _ _ _ (s .before .before .before .before .before .if1 .left) (s .before .before .before .aim .ensures) (e .0) (c .before .before .before .narrow .ensures) (c .before .before .is-tight .ensures), e .1)
 
 pub round-of-spec : {M : Type 1} → statement M
-round-of-spec =
-    tie.close
-    (tie.spec
-    returns
-    aim-requires
-    trial-of-requires
-    narrow-requires
-    is-tight-requires
-    add-t16
-    returns-2)
+round-of-spec = tie.close (tie.spec returns (λ c κs. search needs) (λ c κs. search needs) (λ c κs. search needs) (λ c κs. search needs) add-t16 returns-2)
