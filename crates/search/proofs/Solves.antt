@@ -1,5 +1,5 @@
 -- A trial, and how many solves trials and searches make: laws of the definitions.
-use mathlib.Core.Path.{_≡_, refl, ap, _∙_}
+use mathlib.Core.Path.{_≡_, refl, ap, subst⁻¹, _∙_}
 use mathlib.Core.Bool.{Bool, true, false}
 use mathlib.Core.List.{List, []}
 use Prim.Native.Nat.{ℕ, zero, suc, _+_, _*_, _≤_}
@@ -39,6 +39,9 @@ module _ (u : Setup) (d : Data) (few : u .n ≤ 512) where
   unfolding trialOf
   trial-few point = let h = sweep-solves false u d (bandwidthAt u point) [] in omega (arith, h, few)
 
+  pub trial-made : (point : Float) (t : Trial) → t ≡ trialOf u d point → t .solves ≤ 512
+  trial-made point t e = subst⁻¹ (λ (x : Trial). x .solves ≤ 512) e (trial-few point)
+
   opened-few : (g : Bracket) → openedOf u d g .solves ≤ 1024
   unfolding openedOf
   opened-few g = omega (arith, trial-few (g .c), trial-few (g .d))
@@ -60,6 +63,9 @@ module _ (u : Setup) (d : Data) (few : u .n ≤ 512) where
   pub rounds-few : (r : ℕ) (g : Bracket) → range (roundOf u d) 0 r (openedOf u d g) .solves ≤ 512 * (r + 2)
   unfolding range
   rounds-few r g = rw sub-zero (let h = turns-few r (openedOf u d g) in omega (arith, h, opened-few g))
+
+  pub rounds-made : (r : ℕ) (g : Bracket) (s : Search) → s ≡ range (roundOf u d) 0 r (openedOf u d g) → r ≤ 100 → s .solves ≤ 512 * 102
+  rounds-made r g s e h = let k = subst⁻¹ (λ (t : Search). t .solves ≤ 512 * (r + 2)) e (rounds-few r g) in omega (arith, k, h)
 
   pub golden-few : (lo hi : Float) → goldenOf u d lo hi .solves ≤ 512 * 102
   unfolding goldenOf

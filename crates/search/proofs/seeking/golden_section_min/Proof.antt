@@ -2,17 +2,15 @@
 use Prim.Native.Nat.{_-_}
 use borrow.Author.Needs.{needs}
 use denote.Ref.{now}
-use mathlib.Core.Path.{_≡_, ap, _∙_}
+use mathlib.Core.Path.{ap, subst⁻¹, _∙_}
 use native.Mathlib.Omega.{arith}
-use Rattle.real.specs.Fold.{range}
 use Rattle.real.proofs.Fold.{Range, none, more, done}
 use Rattle.setup.specs.Data.{dataOf}
-use Rattle.golden.specs.declared.Bracket.{Bracket}
 use Rattle.golden.specs.Golden.{startOf}
 use Rattle.search.specs.declared.Search.{Search}
 use Rattle.search.specs.Memo.{Remembered}
 use Rattle.search.specs.Search.{roundOf, openedOf, goldenOf}
-use Rattle.search.proofs.Solves.{rounds-few}
+use Rattle.search.proofs.Solves.{rounds-made}
 use Rattle.search.proofs.Memos.{forgotten}
 use Rattle.search.proofs.seeking.golden_section_min.Statement.{statement}
 use Rattle.search.proofs.seeking.golden_section_min.Tie as tie
@@ -29,10 +27,18 @@ opened-of-requires : tie.Need-opened-of-requires Inv-loop μ-loop
 opened-of-requires c κs = (c .before .before .before .before .before .before .pre, forgotten _ _ _)
 
 loop-holds : tie.Need-loop-holds Inv-loop μ-loop
-loop-holds c = ?
+loop-holds c =
+    let a = c .before .before .before .before .before .before .before .args in
+    let d = dataOf (now (a .coords)) (now (a .x)) (now (a .y)) in
+    let e = c .opened-of .ensures in
+    let opened = e .0 ∙ ap (openedOf (a .u) d) (c .before .before .before .start .ensures) in
+    (subst⁻¹ (λ (s : Search). Range (roundOf (a .u) d) (openedOf (a .u) d (startOf (a .lo) (a .hi))) 0 100 0 s) opened (none (omega arith)), e .1)
 
 round-of-requires : tie.Need-round-of-requires Inv-loop μ-loop
-round-of-requires c κs = ?
+round-of-requires c κs =
+    let l = c .before .before .before in
+    let shaped = l .before .before .before .before .before .before .before .before .pre in
+    (shaped, (l .loop .inv .1, rounds-made _ _ (shaped .sized .few) _ _ _ (l .loop .inv .0 .is) (l .loop .inv .0 .high)))
 
 loop-again : tie.Need-loop-again Inv-loop μ-loop
 loop-again c =

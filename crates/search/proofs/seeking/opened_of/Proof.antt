@@ -1,15 +1,18 @@
 -- `search::seeking::opened_of`: two trials.
 use borrow.Author.Needs.{needs}
-use mathlib.Core.Path.{ap}
 use native.Mathlib.Omega.{arith}
-use Rattle.search.specs.declared.Trial.{Trial}
-use Rattle.search.proofs.Solves.{trial-few}
+use Rattle.search.proofs.Solves.{trial-made}
 use Rattle.search.proofs.Searches.{open-is}
 use Rattle.search.proofs.seeking.opened_of.Statement.{statement}
 use Rattle.search.proofs.seeking.opened_of.Tie as tie
 
 add-t16 : tie.Need-add-t16
-add-t16 c = ?
+add-t16 c =
+    let s = c .before .before .before .before in
+    let few = s .before .before .before .before .before .before .before .before .before .pre .0 .sized .few in
+    let h = trial-made _ _ few _ _ (s .before .before .before .trial-of .ensures .0) in
+    let k = trial-made _ _ few _ _ (s .trial-of2 .ensures .0) in
+    omega (arith, h, k)
 
 returns : tie.Need-returns
 returns c =
