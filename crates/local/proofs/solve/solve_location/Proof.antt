@@ -7,7 +7,7 @@ use Rattle.local.proofs.solve.solve_location.Tie as tie
 
 returns : tie.Need-returns
 unfolding solveLocation
-returns c = c .solve-local .ensures ∙ rw (c .before .location-bandwidth .ensures)
+returns c = c .solve-local .ensures ∙ rw (c .before .local-bandwidth-distance .ensures)
 
 pub solve-location-spec : {M : Type 1} → statement M
 solve-location-spec = tie.close (tie.spec (λ c κs. search needs) (λ c κs. search needs) returns)
