@@ -24,8 +24,10 @@ use Rattle.neighbours.specs.Count.{resolvedCount}
 use Rattle.checks.specs.declared.Check.the-variants as check
 use Rattle.checks.specs.Judge.{judge, ruled, NoneOf, Decides}
 use Rattle.checks.proofs.Judge.{judge-append, ruled-append, here, later, none-among, none-append, decided, decides}
+use Rattle.checks.proofs.Tests.{refused-so, given-so}
 use Rattle.plan.specs.declared.Plan.{Plan}
 use Rattle.plan.specs.declared.Plan.the-variants.{Settled, Sought}
+use Rattle.plan.specs.declared.Acceptance.{Acceptance}
 use Rattle.plan.specs.declared.Acceptance.the-variants.{Refused, Planned}
 use Rattle.plan.specs.Bounds.{greatestDistance, leastDistance, leastCount, greatestCount, pointOf, bandwidthAt}
 use Rattle.plan.specs.Checks.{shapeTests, valueTests, outputTests, inputTests, seeksDistance, nothingBetween, optionTestsAt, optionTests, fitTests}
@@ -70,11 +72,6 @@ module _ (d : Data) (p out : ℕ) where
 
   abbrev output : List (Bool × Refusal)
   output = outputTests (length (d .coords) / 2) p out
-
-  -- the three lists one after the other
-  pub input-is : judge (inputTests d p out) ≡ ruled (judge shape) check.Refused (ruled (judge (valueTests d)) check.Refused (judge output))
-  unfolding inputTests
-  input-is = judge-append shape (valueTests d ++ output) ∙ ap (ruled (judge shape) check.Refused) (judge-append (valueTests d) output)
 
   pub input-accepted : (o : GwrOptions) → NoneOf (inputTests d p out) → Accepted d p o out
   unfolding inputTests shapeTests valueTests outputTests
@@ -167,6 +164,12 @@ module _ (d : Data) (p : ℕ) (o : GwrOptions) (out : ℕ) where
   pub accept-is : acceptOf d p o out ≡ ruled (judge (inputTests d p out)) Refused (planOptions u d)
   unfolding acceptOf planOptionsAt
   accept-is = ruled-append Refused (Planned (planOf u d)) (inputTests d p out) (optionTests u d)
+
+  pub accept-refused : {r : Refusal} → judge (inputTests d p out) ≡ check.Refused r → Refused r ≡ acceptOf d p o out
+  accept-refused e = refused-so Refused (planOptions u d) e ∙ sym accept-is
+
+  pub accept-passed : {a : Acceptance} → NoneOf (inputTests d p out) → a ≡ planOptions u d → a ≡ acceptOf d p o out
+  accept-passed e f = given-so Refused (planOptions u d) e f ∙ sym accept-is
 
   -- which inputs are refused, and what the others are given
   pub accept-decides : Decides (fitTests d p o out) (λ (r : Refusal). acceptOf d p o out ≡ Refused r) (acceptOf d p o out ≡ Planned (planOf u d))
