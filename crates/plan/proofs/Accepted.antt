@@ -1,5 +1,5 @@
 -- What an accepted input is like, and that a plan's bandwidth can be used.
-use mathlib.Core.Path.{_≡_, refl, sym, ap, subst⁻¹, _∙_}
+use mathlib.Core.Path.{_≡_, refl, sym, subst⁻¹, _∙_}
 use mathlib.Core.Bool.{Bool, true, false, cond}
 use mathlib.Core.List.{List, _++_}
 use mathlib.Core.Logic.{inl, inr}
@@ -23,7 +23,7 @@ use Rattle.setup.specs.Shape.{setupOf, Sized, Shaped}
 use Rattle.neighbours.specs.Count.{resolvedCount}
 use Rattle.checks.specs.declared.Check.the-variants as check
 use Rattle.checks.specs.Judge.{judge, ruled, NoneOf, Decides}
-use Rattle.checks.proofs.Judge.{judge-append, ruled-append, here, later, none-among, none-append, decided, decides}
+use Rattle.checks.proofs.Judge.{ruled-append, here, later, none-among, none-append, decided, decides}
 use Rattle.checks.proofs.Tests.{refused-so, given-so}
 use Rattle.plan.specs.declared.Plan.{Plan}
 use Rattle.plan.specs.declared.Plan.the-variants.{Settled, Sought}

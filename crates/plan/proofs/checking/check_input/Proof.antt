@@ -1,7 +1,7 @@
 -- `plan::check_input` meets its contract: the three lists one after the other.
 use borrow.Author.Needs.{needs}
 use mathlib.Core.Path.{sym, _∙_}
-use Rattle.checks.proofs.Tests.{read, lists}
+use Rattle.checks.proofs.Tests.{lists}
 use Rattle.plan.specs.Checks.{inputTests}
 use Rattle.plan.proofs.Accepted.{shape-counts}
 use Rattle.plan.proofs.checking.check_input.Statement.{statement}
