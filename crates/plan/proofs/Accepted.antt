@@ -1,7 +1,7 @@
 -- What an accepted input is like, and that a plan's bandwidth can be used.
 use mathlib.Core.Path.{_≡_, refl, sym, subst⁻¹, _∙_}
 use mathlib.Core.Bool.{Bool, true, false, cond}
-use mathlib.Core.List.{List, _++_}
+use mathlib.Core.List.{List}
 use mathlib.Core.Logic.{inl, inr}
 use Prim.Native.Nat.{ℕ, _+_, _*_, _/_, _%_, _≤_}
 use native.Mathlib.Omega.{arith}
@@ -70,13 +70,10 @@ module _ (d : Data) (p out : ℕ) where
   abbrev shape : List (Bool × Refusal)
   shape = shapeTests (length (d .coords)) (length (d .predictors)) (length (d .responses)) p
 
-  abbrev output : List (Bool × Refusal)
-  output = outputTests (length (d .coords) / 2) p out
-
   pub input-accepted : (o : GwrOptions) → NoneOf (inputTests d p out) → Accepted d p o out
   unfolding inputTests shapeTests valueTests outputTests
   input-accepted o h =
-      let k = shape-counts _ _ _ _ (none-append shape (valueTests d ++ output) h .0) in
+      let k = shape-counts _ _ _ _ (none-append shape _ h .0) in
       record {
         shaped = record { sized = record { few = k .few; narrow = k .narrow; enough = k .enough }; places = k .even; rows = k .rows; answers = k .answers };
         responses-finite = not-false _ (none-among ResponseNotFinite h (search (here, later) depth 20));
