@@ -2,3 +2,4 @@ pub mod Copies
 pub mod Lengths
 pub mod Rows
 pub mod NormalEquations
+pub mod Refusals

@@ -8,7 +8,7 @@ use native.Mathlib.Omega.{arith}
 use lib.ListN.{length}
 use lib.Ieee.{Float}
 use Rattle.real.specs.Fold.{turns, range}
-use Rattle.real.proofs.Fold.{related}
+use Rattle.real.proofs.Fold.{kept, related}
 use Rattle.refusal.specs.declared.Refusal.{Refusal}
 use Rattle.setup.specs.declared.GwrBandwidth.{GwrBandwidth}
 use Rattle.setup.specs.declared.Setup.{Setup}
@@ -91,16 +91,28 @@ module _ (rows : Bool) (u : Setup) (d : Data) (b : GwrBandwidth) where
 
 -- ---- with rows or without, a sweep is the same
 module _ (u : Setup) (d : Data) (b : GwrBandwidth) where
-  visit-alone : (c e : Course) (i : ℕ) (s t : Swept × List Float) → c ≡ e → s .0 ≡ t .0 → visitAt c false u d b i s .0 ≡ visitAt e true u d b i t .0
-  visit-alone c e i s t f h = subst (λ (k : Course). visitAt c false u d b i s .0 ≡ visitAt k true u d b i t .0) f (same c)
+  visit-alone : (rows : Bool) (c e : Course) (i : ℕ) (s t : Swept × List Float) → c ≡ e → s .0 ≡ t .0 → visitAt c false u d b i s .0 ≡ visitAt e rows u d b i t .0
+  visit-alone rows c e i s t f h = subst (λ (k : Course). visitAt c false u d b i s .0 ≡ visitAt k rows u d b i t .0) f (same c)
     where
-      same : (k : Course) → visitAt k false u d b i s .0 ≡ visitAt k true u d b i t .0
+      same : (k : Course) → visitAt k false u d b i s .0 ≡ visitAt k rows u d b i t .0
       same Going = ap (λ (w : Swept). afterSolve (w .sweep) (solveLocation u d b i .outcome)) h
       same (Stopped r) = h
 
-  pub sweep-alone : (out : List Float) → sweepOf u d b ≡ fitAllLocations true u d b out .0
+  pub sweep-same : (rows : Bool) (out : List Float) → sweepOf u d b ≡ fitAllLocations rows u d b out .0
   unfolding fitAllLocations visit
-  sweep-alone out =
-      related (visit false u d b) (visit true u d b) 0 (u .n) (λ (s t : Swept × List Float). s .0 ≡ t .0)
-      (λ k s t h e. visit-alone (s .0 .course) (t .0 .course) k s t (ap (λ (w : Swept). w .course) e) e)
+  sweep-same rows out =
+      related (visit false u d b) (visit rows u d b) 0 (u .n) (λ (s t : Swept × List Float). s .0 ≡ t .0)
+      (λ k s t h e. visit-alone rows (s .0 .course) (t .0 .course) k s t (ap (λ (w : Swept). w .course) e) e)
       _ _ (omega arith) refl
+
+  pub sweep-alone : (out : List Float) → sweepOf u d b ≡ fitAllLocations true u d b out .0
+  sweep-alone out = sweep-same true out
+
+  visit-left : (c : Course) (i : ℕ) (s : Swept × List Float) → visitAt c false u d b i s .1 ≡ s .1
+  visit-left Going i s = refl
+  visit-left (Stopped r) i s = refl
+
+  -- and without rows it leaves the output
+  pub sweep-left : (out : List Float) → fitAllLocations false u d b out .1 ≡ out
+  unfolding fitAllLocations visit
+  sweep-left out = kept (visit false u d b) 0 (u .n) (λ (s : Swept × List Float). s .1 ≡ out) (λ k s h e. visit-left (s .0 .course) k s ∙ e) _ (omega arith) refl

@@ -7,10 +7,10 @@ use Prim.Native.Nat.{ℕ, zero, suc}
 use lib.Dec.{T, T-not}
 use lib.Ieee.{Float, binary64, lt, le, isNan, ofBits}
 use Rattle.real.specs.Reals.{magnitude}
-use Rattle.real.proofs.SignedOrder.{le-tr, le-total, lt→le, nlt→le}
-use Rattle.gwr.specs.declared.Trial.{Trial}
-use Rattle.gwr.specs.Search.{Variables, loopBody, loopFor, beforeLoop}
-use Rattle.gwr.proofs.Literal.{apart, lesser-is}
+use Rattle.real.proofs.SignedOrder.{apart, le-tr, le-total, lt→le, nlt→le}
+use Rattle.search.specs.declared.Trial.{Trial}
+use Rattle.search.specs.Literal.{Variables, loopBody, loopFor, beforeLoop}
+use Rattle.search.proofs.Literal.{lesser-is}
 use Rattle.claims.specs.Whole.{Scored, triedIn, loopTrials, goldenTrials, All, Least, Earliest}
 
 -- ---- lists
