@@ -22,20 +22,20 @@ use Rattle.plan.specs.declared.Plan.{Plan}
 use Rattle.plan.specs.declared.Plan.the-variants as plan
 use Rattle.plan.specs.declared.Acceptance.{Acceptance}
 use Rattle.plan.specs.declared.Acceptance.the-variants as acceptance
-use Rattle.plan.specs.Bounds.{leastDistance, leastCount, greatestCount, pointOf, bandwidthAt}
+use Rattle.plan.specs.Bounds.{leastDistance, leastCount, greatestCount}
 use Rattle.plan.specs.Checks.{valueTests, outputTests, lengthsFit}
 use Rattle.plan.specs.Plan.{resolveInitialBandwidth, distancePlan, countPlan, searchPlan, planAt, planOf, acceptOf}
-use Rattle.plan.proofs.Accepted.{Accepted, Serves, bandwidth-usable, accept-planned}
-use Rattle.gwr.specs.Fit.{planned, gwrFit, fitWith}
+use Rattle.plan.proofs.Accepted.{Accepted, Serves, accept-planned}
+use Rattle.gwr.specs.Fit.{planned, answered, gwrFit}
 use Rattle.stepping.specs.declared.Stage.{Stage}
 use Rattle.stepping.specs.declared.Stage.the-variants.{First, Final}
 use Rattle.stepping.specs.declared.Job.{Job}
 use Rattle.stepping.specs.Step.{freshJob}
 use Rattle.stepping.specs.Sound.{OfKind, TrialsAt, Sound}
+use Rattle.stepping.proofs.Keeping.{kind-at, Holds}
 use Rattle.job.specs.declared.Beginning.the-variants as beginning
 use Rattle.job.specs.Turn.{plannedJob, begunWith, beginOf, lentTests}
 use Rattle.claims.proofs.Cases.{either}
-use Rattle.claims.proofs.Holding.{Holds}
 
 -- ---- the bandwidth is of the options' kind
 
@@ -50,15 +50,6 @@ like-kind (Fixed a) (Fixed b) h v = tt
 like-kind (Fixed a) (AdaptiveKnn k) h v = h
 like-kind (AdaptiveKnn j) (Fixed b) h v = h
 like-kind (AdaptiveKnn j) (AdaptiveKnn k) h v = v
-
-like-point : (kind : GwrBandwidth) (point : Float) (least greatest : ℕ) → Like kind (pointOf kind point least greatest)
-unfolding pointOf
-like-point (Fixed b) point least greatest = tt
-like-point (AdaptiveKnn k) point least greatest = tt
-
-like-at : (u : Setup) (point : Float) → Like (u .options .bandwidth) (bandwidthAt u point)
-unfolding bandwidthAt
-like-at u point = like-point (u .options .bandwidth) point (leastCount (u .p)) (greatestCount (u .n) (u .p))
 
 abbrev PlanLike : GwrBandwidth → Plan → Type 0
 PlanLike kind (plan.Settled b) = Like kind b
@@ -85,7 +76,7 @@ planned-holds : (u : Setup) (out : List Float) → Sized u → (q : Plan) → Se
 planned-holds u out z (plan.Settled b) v k =
     record { setup = refl; held = fresh-sound u Final _ b z (like-kind (u .options .bandwidth) b k v) (omega arith); length-is = refl }
 planned-holds u out z (plan.Sought lo hi) v k =
-    record { setup = refl; held = fresh-sound u First _ _ z (like-kind (u .options .bandwidth) _ (like-at u _) (bandwidth-usable u z _)) refl; length-is = refl }
+    record { setup = refl; held = fresh-sound u First _ _ z (kind-at u _ z) refl; length-is = refl }
 
 module _ (d : Data) (p : ℕ) (o : GwrOptions) (out : List Float) where
   abbrev u : Setup
@@ -97,6 +88,7 @@ module _ (d : Data) (p : ℕ) (o : GwrOptions) (out : List Float) where
   -- the input was accepted, job and fit are those of the plan, and the state that beginning gives holds
   pub record Started : Type 0 where
     pub accepted : Accepted d p o (length out)
+    pub plan : acceptOf d p o (length out) ≡ acceptance.Planned own
     pub job : beginOf d p o (length out) .job ≡ plannedJob own u
     pub fit : gwrFit d p o out ≡ planned own u d out
     pub holds : Holds u (length out) (beginOf d p o (length out) .job, out)
@@ -109,8 +101,9 @@ module _ (d : Data) (p : ℕ) (o : GwrOptions) (out : List Float) where
       let job : begunWith (acceptOf d p o (length out)) u .job ≡ plannedJob own u = ap (λ (a : Acceptance). begunWith a u .job) i in
       record {
         accepted = s .accepted;
+        plan = i;
         job = job;
-        fit = ap (λ (a : Acceptance). fitWith a u d out) i;
+        fit = ap (λ (a : Acceptance). answered a u d out) i;
         holds =
             subst⁻¹ (λ (j : Job). Holds u (length out) (j, out)) job
             (planned-holds u out (s .accepted .shaped .sized) own (subst Serves (s .is) (s .serves)) (plan-like u _));

@@ -1,7 +1,9 @@
 pub mod Leading
+pub mod Holding
 pub mod Sweeping
 pub mod Searching
+pub mod Fitting
+pub mod Playing
 pub mod Best
 pub mod Rising
 pub mod Writing
-pub mod Fitting

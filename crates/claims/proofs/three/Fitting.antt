@@ -24,7 +24,7 @@ use Rattle.sweep.specs.Finish.{finishOf}
 use Rattle.sweep.proofs.Reached.{ReachedAt, sweep-reached, stopped-at, reached-few}
 use Rattle.search.specs.Search.{optimizeBandwidth}
 use Rattle.gwr.specs.declared.Fit.{Fit}
-use Rattle.gwr.specs.Fit.{finalOf, planned}
+use Rattle.gwr.specs.Fit.{finalOf, soughtOf, planned}
 use Rattle.stepping.specs.declared.Stage.the-variants.{Final}
 use Rattle.stepping.specs.Step.{stepOf, isOver}
 use Rattle.job.specs.Run.{steps}
@@ -97,11 +97,12 @@ module _ (u : Setup) (d : Data) where
 
     -- the whole fit, by its plan
     pub plan-ends : (q : Plan) → Ends (plannedJob q u, out) (planned q u d out) (foundBandwidth q u d) (length (trialsOf q u d)) (foundSolves q u d)
-    unfolding optimizeBandwidth
+    unfolding soughtOf optimizeBandwidth
     plan-ends (plan.Settled b) = final-ends _ noBracket b 0 0 (leads-none _)
     plan-ends (plan.Sought lo hi) = final-ends _ _ _ _ _ (golden-leads u d some out lo hi)
 
     -- the fit is a final fit at that bandwidth, after the search's solves
     pub plan-final : (q : Plan) → planned q u d out ≡ finalOf u d (foundBandwidth q u d) (foundSolves q u d) out
+    unfolding soughtOf
     plan-final (plan.Settled b) = refl
     plan-final (plan.Sought lo hi) = refl

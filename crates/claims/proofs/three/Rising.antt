@@ -17,11 +17,12 @@ use Rattle.stepping.specs.declared.Stage.{Stage}
 use Rattle.stepping.specs.declared.Stage.the-variants.{First, Second, Round, Final, Ended}
 use Rattle.stepping.specs.declared.Job.{Job}
 use Rattle.stepping.specs.Step.{isEnded, isLastRound, closeAt, closeJob, solvedJob, passJob, afterOutcome, solveOf, stepJob, stepOf, isOver}
-use Rattle.stepping.specs.Sound.{TrialsAt, endedSolve}
+use Rattle.stepping.specs.Sound.{endedSolve}
+use Rattle.stepping.proofs.Sounds.{sound-few}
+use Rattle.stepping.proofs.Keeping.{Holds}
 use Rattle.job.specs.Run.{steps}
 use Rattle.claims.specs.Turns.{JobState, settled}
 use Rattle.claims.proofs.Cases.{either, never}
-use Rattle.claims.proofs.Holding.{Holds}
 use Rattle.claims.proofs.three.Leading.{Leads}
 
 -- ---- solves
@@ -44,13 +45,6 @@ unfolding steps stepOf stepJob
 steps-solves d zero s = omega arith
 steps-solves d (suc k) s = omega (arith, steps-solves d k (stepOf d s), after-solves (s .0) (solveOf d (s .0) .outcome))
 
-trials-few : (x : Stage) (t : ℕ) → TrialsAt x t → t ≤ 102
-trials-few First t h = omega (arith, h)
-trials-few Second t h = omega (arith, h)
-trials-few Round t h = omega (arith, h .1)
-trials-few Final t h = h
-trials-few (Ended c) t h = h
-
 ended-few : (x : Stage) → endedSolve x ≤ 1
 ended-few First = omega arith
 ended-few Second = omega arith
@@ -63,7 +57,7 @@ pub few-solves : (u : Setup) (long : ℕ) (s : JobState) → Holds u long s → 
 few-solves u long s h =
     let k = h .held in
     let j = s .0 in
-    let t : j .trials .made * j .setup .n ≤ 102 * j .setup .n = mul-le-mul (trials-few (j .stage) (j .trials .made) (k .trials)) (omega arith) in
+    let t : j .trials .made * j .setup .n ≤ 102 * j .setup .n = mul-le-mul (sound-few k) (omega arith) in
     subst (λ (w : Setup). j .solves ≤ 103 * w .n) (h .setup) (omega (arith, k .solves, k .within, ended-few (j .stage)))
 
 -- ---- the bandwidth and the trials
