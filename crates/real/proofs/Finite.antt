@@ -1,4 +1,4 @@
--- The walk of `all_finite`: what it has passed and what is left decide together.
+-- A walk over a list that asks whether its numbers are finite: what it has passed and what is left decide together.
 use mathlib.Core.Path.{_≡_, refl, sym, ap, _∙_}
 use mathlib.Core.Bool.{Bool, true, false, _&&_}
 use mathlib.Core.List.{List}
@@ -9,7 +9,7 @@ use lib.ListN.{length, drop, getD, drop-of-length-le}
 use lib.Seq.{drop-cons}
 use lib.Ieee.{Float, nan}
 use lib.Ieee.Scale.{finite}
-use Rattle.plan.specs.Checks.{allFinite}
+use Rattle.real.specs.Finite.{allFinite}
 
 pub record Passed (l : List Float) (i : ℕ) (good : Bool) : Type 0 where
   pub within : i ≤ length l
