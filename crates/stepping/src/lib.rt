@@ -100,16 +100,26 @@ impl Job {
     }
 
     // After a trial: the next sweep is at a point, its location and sums at zero.
-    fn next_sweep(mut self, stage: Stage, bracket: Bracket, point: f64) -> Self
+    fn next_sweep(self, stage: Stage, bracket: Bracket, point: f64) -> Self
         requires { ⌜ Sound 1 self ⌝ }
         ensures { λ r. ⌜ r ≡ nextSweep self stage bracket point ⌝ }
     {
-        self.stage = stage;
-        self.trials.bracket = bracket;
-        self.trials.made = self.trials.made + 1;
-        self.bandwidth = plan::bandwidth_at(self.setup, point);
-        self.sweep = Sweep::new(); // no sum of a trial outlives it, failed or not
-        self
+        let setup = self.setup;
+        let made = self.trials.made + 1;
+        let trials = Trials {
+            bracket,
+            made,
+        };
+        let bandwidth = plan::bandwidth_at(setup, point);
+        let sweep = Sweep::new(); // no sum of a trial outlives it, failed or not
+        Job {
+            setup,
+            stage,
+            trials,
+            bandwidth,
+            sweep,
+            solves: self.solves,
+        }
     }
 
     // The first trial has its score.
@@ -146,11 +156,21 @@ impl Job {
     }
 
     // The job ends; it keeps the location of its last solve.
-    fn end(mut self, ending: Criterion) -> Self
+    fn end(self, ending: Criterion) -> Self
         ensures { λ r. ⌜ r ≡ endJob self ending ⌝ }
     {
-        self.stage = Stage::Ended(ending);
-        self
+        let setup = self.setup;
+        let trials = self.trials;
+        let bandwidth = self.bandwidth;
+        let sweep = self.sweep;
+        Job {
+            setup,
+            stage: Stage::Ended(ending),
+            trials,
+            bandwidth,
+            sweep,
+            solves: self.solves,
+        }
     }
 
     // A sweep is over.
@@ -216,10 +236,12 @@ impl Job {
     {
         let u = self.setup;
         let stage = self.stage;
+        let bandwidth = self.bandwidth;
         let i = self.sweep.location;
-        let solved = local::solve_location(coords, x, y, u, self.bandwidth, i);
+        let solved = local::solve_location(coords, x, y, u, bandwidth, i);
+        let outcome = solved.outcome;
         sweep::write_row(out, stage.is_final(), u, i, solved);
-        self.after_outcome(solved.outcome)
+        self.after_outcome(outcome)
     }
 }
 
