@@ -2,10 +2,11 @@
 use mathlib.Core.Path.{_≡_, refl, sym, ap, _∙_}
 use mathlib.Core.Bool.{Bool, true, false, cond}
 use mathlib.Core.List.{List}
-use Prim.Native.Nat.{ℕ, _+_}
+use Prim.Native.Nat.{ℕ, _+_, _*_, _≤_}
 use borrow.Author.Tests.{eq-eqb, ne-eqb}
 use lib.Ieee.{Float}
 use Rattle.refusal.specs.declared.Refusal.{Refusal}
+use Rattle.setup.specs.declared.Setup.{Setup}
 use Rattle.setup.specs.Data.{Data}
 use Rattle.local.specs.declared.Values.{Values}
 use Rattle.local.specs.declared.Outcome.{Outcome}
@@ -17,7 +18,7 @@ use Rattle.criterion.specs.Aicc.{correctedAic}
 use Rattle.golden.specs.declared.Bracket.{Bracket}
 use Rattle.golden.specs.Golden.{firstOf, secondOf, aimOf, narrowOf}
 use Rattle.sweep.specs.declared.Sweep.{Sweep}
-use Rattle.sweep.specs.Sweep.{addValues, nextLocation, rowAfter}
+use Rattle.sweep.specs.Sweep.{addValues, nextLocation, rowAfter, RoomFor}
 use Rattle.sweep.proofs.Sweeps.{pair}
 use Rattle.stepping.specs.declared.Stage.{Stage}
 use Rattle.stepping.specs.declared.Stage.the-variants.{First, Second, Round, Final, Ended}
@@ -88,3 +89,8 @@ module _ (j : Job) where
       (ha
       ∙ ap (λ (x : Bool). rowAfter x (j .setup) (j .sweep .location) v out) hb
       ∙ ap (λ (u : Solved). rowAfter (isFinal (j .stage)) (j .setup) (j .sweep .location) u out) hv)
+
+-- room for every row is room for those that are written
+pub room-for : (b : Bool) (u : Setup) (out : ℕ) → u .n * (u .p + 4) ≤ out → RoomFor b u out
+room-for true u out h = h
+room-for false u out h = tt

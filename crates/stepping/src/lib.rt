@@ -84,10 +84,7 @@ impl Job {
     pub fn fresh(setup: Setup, stage: Stage, bracket: Bracket, bandwidth: GwrBandwidth) -> Self
         ensures { λ r. ⌜ r ≡ freshJob setup stage bracket bandwidth ⌝ }
     {
-        let trials = Trials {
-            bracket,
-            made: 0,
-        };
+        let trials = Trials { bracket, made: 0 };
         let sweep = Sweep::new();
         Job {
             setup,
@@ -106,10 +103,7 @@ impl Job {
     {
         let setup = self.setup;
         let made = self.trials.made + 1;
-        let trials = Trials {
-            bracket,
-            made,
-        };
+        let trials = Trials { bracket, made };
         let bandwidth = plan::bandwidth_at(setup, point);
         let sweep = Sweep::new(); // no sum of a trial outlives it, failed or not
         Job {

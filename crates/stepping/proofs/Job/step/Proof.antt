@@ -1,44 +1,21 @@
+-- `stepping::Job::step`: the location solved, its row, and the record after the outcome.
 use borrow.Author.Needs.{needs}
+use Rattle.stepping.proofs.Sounds.{sound-usable}
+use Rattle.stepping.proofs.Steps.{step-is, room-for}
 use Rattle.stepping.proofs.Job.step.Statement.{statement}
 use Rattle.stepping.proofs.Job.step.Tie as tie
-use Rattle.stepping.proofs.Job.step.Reads as reads
-use Rattle.stepping.proofs.Job.step.Lts as lts
-use Rattle.local.proofs.solve_location.Reads as solve-location-reads
-use Rattle.stepping.proofs.Job.after_outcome.Reads as after-outcome-reads
-use Rattle.stepping.proofs.Stage.is_final.Reads as is-final-reads
-use Rattle.sweep.proofs.write_row.Reads as write-row-reads
 
--- src/lib.rt:241:13
 solve-location-requires : tie.Need-solve-location-requires
-solve-location-requires c κs = ?
+solve-location-requires c κs = let s = c .before .before .before .before .before in (s .pre .1 .0, (sound-usable (s .pre .0), s .pre .0 .within))
 
--- src/lib.rt:243:31
-is-final-requires : tie.Need-is-final-requires
-is-final-requires c κs = search needs
-
--- src/lib.rt:243:9
 write-row-requires : tie.Need-write-row-requires
-write-row-requires c κs = ?
+write-row-requires c κs =
+    let s = c .before .before .before .before .before .before .before .before in
+    let j = s .pre .0 in
+    ((j .sized .few, j .sized .narrow, j .within), room-for _ _ _ (s .pre .1 .1))
 
--- src/lib.rt:244:9
-after-outcome-requires : tie.Need-after-outcome-requires
-after-outcome-requires c κs = search needs
-
--- src/lib.rt:231:5
-same-length : tie.Need-same-length
-same-length c = search needs
-
--- src/lib.rt:231:5
 returns : tie.Need-returns
-returns c = ?
+returns c = step-is (c .before .before .before .before .before .before .before .before .before .before .before .before .args .self) _ _ _ _ _ _ (c .before .before .before .before .before .before .solve-location .ensures) (c .before .before .before .before .is-final .ensures) (c .before .before .before .write-row .ensures) (c .after-outcome .ensures)
 
 pub step-spec : {M : Type 1} → statement M
-step-spec =
-    tie.close
-    (tie.spec
-    solve-location-requires
-    is-final-requires
-    write-row-requires
-    after-outcome-requires
-    same-length
-    returns)
+step-spec = tie.close (tie.spec solve-location-requires (λ c κs. search needs) write-row-requires (λ c κs. search needs) (λ c. search needs) returns)
