@@ -189,9 +189,9 @@ module _ (d : Data) (p : ℕ) (o : GwrOptions) (out : ℕ) where
   pub accept-planned : {q : Plan} → acceptOf d p o out ≡ Planned q → Planned-as d p o out q
   accept-planned {q} e =
       elim (decided (fitTests d p o out)) [
-        inl f ↦ refused-planned (sym (accept-decides .refused (f .0) (f .1)) ∙ e)
-      | inr n ↦
-          let a = input-accepted d p out o (none-append (inputTests d p out) (optionTests u d) n .0) in
-          let i : q ≡ planOf u d = planned-one (sym e ∙ accept-decides .served n) in
-          record { passed = n; accepted = a; is = i; serves = subst⁻¹ Serves i (plan-serves u (a .shaped .sized) (greatestDistance (d .coords) (u .n))) }
+        | inl f ↦ refused-planned (sym (accept-decides .refused (f .0) (f .1)) ∙ e)
+        | inr n ↦
+            let a = input-accepted d p out o (none-append (inputTests d p out) (optionTests u d) n .0) in
+            let i : q ≡ planOf u d = planned-one (sym e ∙ accept-decides .served n) in
+            record { passed = n; accepted = a; is = i; serves = subst⁻¹ Serves i (plan-serves u (a .shaped .sized) (greatestDistance (d .coords) (u .n))) }
       ]
