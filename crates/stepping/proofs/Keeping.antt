@@ -62,7 +62,7 @@ next-row : (t n : ℕ) → (t + 1) * n ≡ t * n + n
 next-row t n = rw (add-one, suc-mul)
 
 -- the bandwidth at a point is of the kind that is sought
-kind-at : (u : Setup) (point : Float) → Sized u → OfKind (u .options .bandwidth) (bandwidthAt u point)
+pub kind-at : (u : Setup) (point : Float) → Sized u → OfKind (u .options .bandwidth) (bandwidthAt u point)
 unfolding bandwidthAt pointOf
 kind-at u point z = go (u .options .bandwidth) (bandwidth-usable u z point)
   where

@@ -19,7 +19,7 @@ use Rattle.sweep.specs.declared.Course.{Course}
 use Rattle.sweep.specs.declared.Course.the-variants.{Going, Stopped}
 use Rattle.sweep.specs.declared.Sweep.{Sweep}
 use Rattle.sweep.specs.declared.Swept.{Swept}
-use Rattle.sweep.specs.Sweep.{newSweep, afterSolve, visitAt, visit, fitAllLocations, solvesAfter, solvesOf}
+use Rattle.sweep.specs.Sweep.{newSweep, afterSolve, visitAt, visit, fitAllLocations, solvesOf}
 
 module _ (u : Setup) (d : Data) (b : GwrBandwidth) where
   -- the outcome at a location
@@ -50,16 +50,28 @@ module _ (u : Setup) (d : Data) (b : GwrBandwidth) where
       let s = turns (visit rows u d b) 0 i (record { course = Going; sweep = newSweep }, out) in
       rw zero-add (visit-reached rows (s .0 .course) i (s .0 .sweep) (s .1) (turns-reached rows out i))
 
+  pub range-reached : (rows : Bool) (out : List Float) (i : ℕ) → Reached i (range (visit rows u d b) 0 i (record { course = Going; sweep = newSweep }, out) .0)
+  unfolding range
+  range-reached rows out i = rw sub-zero (turns-reached rows out i)
+
   -- a whole sweep
   pub sweep-reached : (rows : Bool) (out : List Float) → Reached (u .n) (fitAllLocations rows u d b out .0)
-  unfolding fitAllLocations range
-  sweep-reached rows out = rw sub-zero (turns-reached rows out (u .n))
+  unfolding fitAllLocations
+  sweep-reached rows out = range-reached rows out (u .n)
 
   -- a refusal that it met is a solve's
   pub stopped-at : (r : Refusal) (i : ℕ) (s : Sweep) → ReachedAt (Stopped r) i s → AtLocation r
   stopped-at r i s h = subst OutcomeAt (h .1) (location-at u d b (s .location))
 
-  -- as many rows as solves, but for one that failed, and no more than n
-  pub reached-few : (c : Course) (i : ℕ) (s : Sweep) → ReachedAt c i s → (s .location ≤ solvesAfter c (s .location)) × (solvesAfter c (s .location) ≤ s .location + 1) × (solvesAfter c (s .location) ≤ i)
-  reached-few Going i s h = (omega arith, omega arith, omega (arith, h))
-  reached-few (Stopped r) i s h = (omega arith, omega arith, omega (arith, h .0))
+  -- as many rows as solves, but for one that failed, and no more than i of both
+  pub record Few (i : ℕ) (s : Swept) : Type 0 where
+    pub rows : s .sweep .location ≤ solvesOf s
+    pub failed : solvesOf s ≤ s .sweep .location + 1
+    pub all : solvesOf s ≤ i
+
+  few-at : (c : Course) (i : ℕ) (s : Sweep) → ReachedAt c i s → Few i (record { course = c; sweep = s })
+  few-at Going i s h = record { rows = omega arith; failed = omega arith; all = omega (arith, h) }
+  few-at (Stopped r) i s h = record { rows = omega arith; failed = omega arith; all = omega (arith, h .0) }
+
+  pub reached-few : (i : ℕ) (s : Swept) → Reached i s → Few i s
+  reached-few i s h = few-at (s .course) i (s .sweep) h

@@ -79,7 +79,7 @@ module _ (u : Setup) (d : Data) where
         let k = c + solvesOf (s .0) in
         let counted = count-is (endingOf u (s .0)) b k in
         let reached = sweep-reached u d b true out in
-        let few = reached-few u d b (s .0 .course) (u .n) (s .0 .sweep) reached in
+        let few = reached-few u d b (u .n) (s .0) reached in
         record {
           end = swept u d Final g b m c out s;
           way = rw counted (leads-then h (sweep-leads u d Final g b m c out refl some));
@@ -87,8 +87,8 @@ module _ (u : Setup) (d : Data) where
           said = refl;
           rows = refl;
           wrote = ended-rows b (s .0 .course) (s .0 .sweep) reached;
-          least = omega (arith, counted, few .0);
-          most = omega (arith, counted, few .1);
+          least = omega (arith, counted, few .rows);
+          most = omega (arith, counted, few .failed);
           final = (ap (λ (z : JobState). z .0 .stage) (h .to), ap (λ (z : JobState). z .0 .sweep .location) (h .to));
           bandwidth = refl;
           trials = refl;
