@@ -34,7 +34,8 @@ use Rattle.stepping.specs.Step.{freshJob}
 use Rattle.stepping.specs.Sound.{OfKind, TrialsAt, Sound}
 use Rattle.stepping.proofs.Keeping.{kind-at, Holds}
 use Rattle.job.specs.declared.Beginning.the-variants as beginning
-use Rattle.job.specs.Turn.{plannedJob, begunWith, beginOf, lentTests}
+use Rattle.job.specs.Begin.{startJob, begunWith, beginOf}
+use Rattle.job.specs.Turn.{lentTests}
 use Rattle.claims.proofs.Cases.{either}
 
 -- ---- the bandwidth is of the options' kind
@@ -72,7 +73,7 @@ plan-like u hi = either (PlanLike (u .options .bandwidth)) (u .options .«optimi
 fresh-sound : (u : Setup) (x : Stage) (g : Bracket) (b : GwrBandwidth) → Sized u → OfKind (u .options .bandwidth) b → TrialsAt x 0 → Sound 0 (freshJob u x g b)
 fresh-sound u x g b z k t = record { sized = z; within = omega (arith, z .enough); kind = k; solves = omega arith; trials = t }
 
-planned-holds : (u : Setup) (out : List Float) → Sized u → (q : Plan) → Serves q → PlanLike (u .options .bandwidth) q → Holds u (length out) (plannedJob q u, out)
+planned-holds : (u : Setup) (out : List Float) → Sized u → (q : Plan) → Serves q → PlanLike (u .options .bandwidth) q → Holds u (length out) (startJob u q, out)
 planned-holds u out z (plan.Settled b) v k =
     record { setup = refl; held = fresh-sound u Final _ b z (like-kind (u .options .bandwidth) b k v) (omega arith); length-is = refl }
 planned-holds u out z (plan.Sought lo hi) v k =
@@ -89,7 +90,7 @@ module _ (d : Data) (p : ℕ) (o : GwrOptions) (out : List Float) where
   pub record Started : Type 0 where
     pub accepted : Accepted d p o (length out)
     pub plan : acceptOf d p o (length out) ≡ acceptance.Planned own
-    pub job : beginOf d p o (length out) .job ≡ plannedJob own u
+    pub job : beginOf d p o (length out) .job ≡ startJob u own
     pub fit : gwrFit d p o out ≡ planned own u d out
     pub holds : Holds u (length out) (beginOf d p o (length out) .job, out)
 
@@ -98,7 +99,7 @@ module _ (d : Data) (p : ℕ) (o : GwrOptions) (out : List Float) where
   with-plan q e =
       let s = accept-planned d p o (length out) e in
       let i : acceptOf d p o (length out) ≡ acceptance.Planned own = e ∙ ap acceptance.Planned (s .is) in
-      let job : begunWith (acceptOf d p o (length out)) u .job ≡ plannedJob own u = ap (λ (a : Acceptance). begunWith a u .job) i in
+      let job : begunWith (acceptOf d p o (length out)) u .job ≡ startJob u own = ap (λ (a : Acceptance). begunWith a u .job) i in
       record {
         accepted = s .accepted;
         plan = i;

@@ -1,5 +1,4 @@
 pub mod Leading
-pub mod Holding
 pub mod Sweeping
 pub mod Searching
 pub mod Fitting

@@ -27,8 +27,9 @@ use Rattle.gwr.specs.declared.Fit.{Fit}
 use Rattle.gwr.specs.Fit.{finalOf, soughtOf, planned}
 use Rattle.stepping.specs.declared.Stage.the-variants.{Final}
 use Rattle.stepping.specs.Step.{stepOf, isOver}
+use Rattle.job.specs.Begin.{startJob}
 use Rattle.job.specs.Run.{steps}
-use Rattle.job.specs.Turn.{plannedJob, answerAt}
+use Rattle.job.specs.Turn.{answerAt}
 use Rattle.claims.specs.Written.{rowsEnded, writtenRows}
 use Rattle.claims.specs.Whole.{solvesIn, countOf, endedWith, trialsOf}
 use Rattle.claims.specs.Turns.{JobState}
@@ -60,7 +61,7 @@ module _ (u : Setup) (d : Data) where
     pub end : JobState
     pub way : Leading u d (countOf (f .0 .answer)) begun end
     pub over : isOver end ≡ true
-    pub said : answerAt (end .0 .stage) (end .0 .bandwidth) (end .0 .solves) ≡ endedWith (f .0 .answer)
+    pub said : answerAt (end .0 .stage) (end .0) ≡ endedWith (f .0 .answer)
     pub rows : end .1 ≡ f .1
     pub wrote : writtenRows (end .0) ≡ f .0 .rows
     pub least : c + f .0 .rows ≤ countOf (f .0 .answer)
@@ -96,7 +97,7 @@ module _ (u : Setup) (d : Data) where
         }
 
     -- the whole fit, by its plan
-    pub plan-ends : (q : Plan) → Ends (plannedJob q u, out) (planned q u d out) (foundBandwidth q u d) (length (trialsOf q u d)) (foundSolves q u d)
+    pub plan-ends : (q : Plan) → Ends (startJob u q, out) (planned q u d out) (foundBandwidth q u d) (length (trialsOf q u d)) (foundSolves q u d)
     unfolding soughtOf optimizeBandwidth
     plan-ends (plan.Settled b) = final-ends _ noBracket b 0 0 (leads-none _)
     plan-ends (plan.Sought lo hi) = final-ends _ _ _ _ _ (golden-leads u d some out lo hi)

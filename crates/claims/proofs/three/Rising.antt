@@ -17,10 +17,10 @@ use Rattle.stepping.specs.declared.Stage.{Stage}
 use Rattle.stepping.specs.declared.Stage.the-variants.{First, Second, Round, Final, Ended}
 use Rattle.stepping.specs.declared.Job.{Job}
 use Rattle.stepping.specs.Step.{isEnded, isLastRound, closeAt, closeJob, solvedJob, passJob, afterOutcome, solveOf, stepJob, stepOf, isOver}
-use Rattle.stepping.specs.Sound.{endedSolve}
 use Rattle.stepping.proofs.Sounds.{sound-few}
 use Rattle.stepping.proofs.Keeping.{Holds}
 use Rattle.job.specs.Run.{steps}
+use Rattle.job.proofs.Fits.{ended-few}
 use Rattle.claims.specs.Turns.{JobState, settled}
 use Rattle.claims.proofs.Cases.{either, never}
 use Rattle.claims.proofs.three.Leading.{Leads}
@@ -44,13 +44,6 @@ pub steps-solves : (d : Data) (k : ℕ) (s : JobState) → steps (stepOf d) k s 
 unfolding steps stepOf stepJob
 steps-solves d zero s = omega arith
 steps-solves d (suc k) s = omega (arith, steps-solves d k (stepOf d s), after-solves (s .0) (solveOf d (s .0) .outcome))
-
-ended-few : (x : Stage) → endedSolve x ≤ 1
-ended-few First = omega arith
-ended-few Second = omega arith
-ended-few Round = omega arith
-ended-few Final = omega arith
-ended-few (Ended c) = omega arith
 
 -- a state that holds has made at most 103 × n solves
 pub few-solves : (u : Setup) (long : ℕ) (s : JobState) → Holds u long s → s .0 .solves ≤ 103 * u .n
