@@ -12,7 +12,7 @@ write-row-requires : tie.Need-write-row-requires
 write-row-requires c κs =
     let s = c .before .before .before .before .before .before .before .before in
     let j = s .pre .0 in
-    ((j .sized .few, j .sized .narrow, j .within), room-for _ _ _ (s .pre .1 .1))
+    ((j .sized .few, j .sized .narrow, j .within), room-for (c .is-final .result) (s .args .self .setup) _ (s .pre .1 .1))
 
 returns : tie.Need-returns
 returns c = step-is (c .before .before .before .before .before .before .before .before .before .before .before .before .args .self) _ _ _ _ _ _ (c .before .before .before .before .before .before .solve-location .ensures) (c .before .before .before .before .is-final .ensures) (c .before .before .before .write-row .ensures) (c .after-outcome .ensures)
