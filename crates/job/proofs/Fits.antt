@@ -24,8 +24,8 @@ pub sizes-means : (u : Setup) (l : ℕ) → Means (sizesFit u l) (Sized u × (l 
 unfolding sizesFit
 sizes-means u l =
     let m = and-means (leb (u .n) 512) _ (most-means _ _) (and-means (leb (u .p) 7) _ (most-means _ _) (and-means (leb (u .p + 1) (u .n)) _ (most-means _ _) (below-means l (u .n)))) in (
-      λ e. let h = m .0 e in (record { few = h .0; narrow = h .1; enough = h .2 }, h .3),
-      λ h. m .1 (h .0 .few, h .0 .narrow, h .0 .enough, h .1),
+      λ e. let h = m .0 e in (record { few = h .0; narrow = h .1 .0; enough = h .1 .1 .0 }, h .1 .1 .1),
+      λ h. m .1 (h .0 .few, (h .0 .narrow, (h .0 .enough, h .1))),
     )
 
 pub kinds-means : (kind b : GwrBandwidth) → Means (kindsFit kind b) (OfKind kind b)
@@ -55,8 +55,8 @@ fit-means j =
         (and-means (trialsFit (j .stage) (j .trials .made)) _ (trials-mean (j .stage) (j .trials .made))
         (most-means (j .solves) (j .trials .made * j .setup .n + j .sweep .location + endedSolve (j .stage)))))
     in (
-      λ e. let h = m .0 e in record { sized = h .0 .0; within = h .0 .1; kind = h .1; solves = h .3; trials = h .2 },
-      λ s. m .1 ((s .sized, s .within), s .kind, s .trials, s .solves),
+      λ e. let h = m .0 e in record { sized = h .0 .0; within = h .0 .1; kind = h .1 .0; solves = h .1 .1 .1; trials = h .1 .1 .0 },
+      λ s. m .1 ((s .sized, s .within), (s .kind, (s .trials, s .solves))),
     )
 
 pub ended-few : (x : Stage) → endedSolve x ≤ 1

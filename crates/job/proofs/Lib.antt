@@ -1,4 +1,4 @@
 pub mod Fits
 pub mod Begins
 pub mod Runs
-pub mod Turns
+pub mod Turning

@@ -3,6 +3,7 @@ use mathlib.Core.Path.{_≡_, refl, sym, ap, _∙_}
 use mathlib.Core.Bool.{Bool, true, false, cond}
 use Prim.Native.Nat.{ℕ, zero, suc, _+_, _-_, _≤_, _<_}
 use native.Mathlib.Omega.{arith}
+use Rattle.sweep.proofs.Sweeps.{pair}
 use Rattle.job.specs.Run.{steps, run}
 
 module _ {S : Type 0} (step : S → S) (over : S → Bool) where
@@ -70,7 +71,7 @@ module _ {S : Type 0} {step : S → S} {over : S → Bool} {allowance : ℕ} {s�
     ended e =
         let state : s ≡ run step over allowance s₀ .0 = sym (ap (λ (x : S × ℕ). x .0) e) ∙ r .state in
         let count : made ≡ run step over allowance s₀ .1 = omega (arith, ap (λ (x : S × ℕ). x .1) e, r .count) in
-        cc
+        pair state count
 
     -- the whole run, where the work is over or the allowance is spent
     pub running-over : over s ≡ true → _≡_ {A = S × ℕ} (s, made) (run step over allowance s₀)

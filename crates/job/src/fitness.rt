@@ -80,7 +80,8 @@ pub fn is_fit(j: Job) -> bool
     ensures { λ r. ⌜ r ≡ isFit j ⌝ }
 {
     let u = j.setup;
-    let kind = u.options.bandwidth;
+    let options = u.options;
+    let kind = options.bandwidth;
     let bandwidth = j.bandwidth;
     let stage = j.stage;
     if sizes_fit(u, j.sweep.location) {

@@ -1,13 +1,13 @@
 // A fit in turns: it is begun, and each turn makes so many steps of it as it is allowed.
-mod beginning; // the first trial or the final fit set up
 mod fitness; // which records are fit
+mod starting; // the first trial or the final fit set up
 mod turns; // the refusals of a turn, and its run of steps
 
 use refusal::Refusal;
 use stepping::Job;
 use sweep::Finish;
 
-pub use beginning::begin;
+pub use starting::begin;
 pub use turns::turn;
 
 // What beginning answers; a refused one makes no job.
