@@ -1,54 +1,31 @@
+-- `job::fitness::is_fit`: part by part; sizes and trials that fit keep the numbers small.
 use borrow.Author.Needs.{needs}
+use mathlib.Core.Path.{sym, _∙_}
+use Rattle.job.specs.Fitness.{isFit}
+use Rattle.job.proofs.Fits.{sizes-means, trials-fit-few}
 use Rattle.job.proofs.fitness.is_fit.Statement.{statement}
 use Rattle.job.proofs.fitness.is_fit.Tie as tie
-use Rattle.job.proofs.fitness.is_fit.Reads as reads
-use Rattle.job.proofs.fitness.is_fit.Lts as lts
-use Rattle.job.proofs.fitness.kinds_fit.Reads as kinds-fit-reads
-use Rattle.job.proofs.fitness.sizes_fit.Reads as sizes-fit-reads
-use Rattle.job.proofs.fitness.solves_fit.Reads as solves-fit-reads
-use Rattle.job.proofs.fitness.trials_fit.Reads as trials-fit-reads
 
--- src/fitness.rt:89:8
-sizes-fit-requires : tie.Need-sizes-fit-requires
-sizes-fit-requires c κs = search needs
-
--- src/fitness.rt:90:12
-kinds-fit-requires : tie.Need-kinds-fit-requires
-kinds-fit-requires c κs = search needs
-
--- src/fitness.rt:91:16
-trials-fit-requires : tie.Need-trials-fit-requires
-trials-fit-requires c κs = search needs
-
--- src/fitness.rt:92:17
 solves-fit-requires : tie.Need-solves-fit-requires
-solves-fit-requires c κs = ?
+solves-fit-requires c κs =
+    let a = sizes-means _ _ .0 (sym (c .before .before .before .before .before .sizes-fit .ensures) ∙ c .before .before .before .before .if1 .taken) in
+    (a .0, (a .1, trials-fit-few _ _ (sym (c .before .trials-fit .ensures) ∙ c .if3 .taken)))
 
--- src/fitness.rt:92:17
 returns : tie.Need-returns
-returns c = ?
+unfolding isFit
+returns c = rw (← c .before .before .before .before .before .before .sizes-fit .ensures, c .before .before .before .before .before .if1 .taken, ← c .before .before .before .before .kinds-fit .ensures, c .before .before .before .if2 .taken, ← c .before .before .trials-fit .ensures, c .before .if3 .taken) (c .solves-fit .ensures)
 
--- src/fitness.rt:81:1
 returns-2 : tie.Need-returns-2
-returns-2 c = ?
+unfolding isFit
+returns-2 c = rw (← c .before .before .before .before .before .sizes-fit .ensures, c .before .before .before .before .if1 .taken, ← c .before .before .before .kinds-fit .ensures, c .before .before .if2 .taken, ← c .before .trials-fit .ensures, c .if3 .left)
 
--- src/fitness.rt:81:1
 returns-3 : tie.Need-returns-3
-returns-3 c = ?
+unfolding isFit
+returns-3 c = rw (← c .before .before .before .sizes-fit .ensures, c .before .before .if1 .taken, ← c .before .kinds-fit .ensures, c .if2 .left)
 
--- src/fitness.rt:81:1
 returns-4 : tie.Need-returns-4
-returns-4 c = ?
+unfolding isFit
+returns-4 c = rw (← c .before .sizes-fit .ensures, c .if1 .left)
 
 pub is-fit-spec : {M : Type 1} → statement M
-is-fit-spec =
-    tie.close
-    (tie.spec
-    sizes-fit-requires
-    kinds-fit-requires
-    trials-fit-requires
-    solves-fit-requires
-    returns
-    returns-2
-    returns-3
-    returns-4)
+is-fit-spec = tie.close (tie.spec (λ c κs. search needs) (λ c κs. search needs) (λ c κs. search needs) solves-fit-requires returns returns-2 returns-3 returns-4)

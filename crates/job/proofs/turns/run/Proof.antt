@@ -25,7 +25,7 @@ step-requires : tie.Need-step-requires Inv-loop μ-loop
 step-requires c κs = let s = c .before .before .before .before .before .before .before .before .before in reached-ready _ (c .before .before .before .before .loop .inv) (sym (c .before .before .is-ended .ensures) ∙ c .before .if1 .left) (s .pre .1 .0) (s .pre .1 .1)
 
 loop-again : tie.Need-loop-again Inv-loop μ-loop
-loop-again c = 
+loop-again c =
     let s = c .before .before .before .before .before .before .before .before .before .before .before .before in
     reached-more _ (c .before .before .before .before .before .before .before .loop .inv) _ _ (s .pre .1 .1) (search needs) (sym (c .before .before .before .before .before .is-ended .ensures) ∙ c .before .before .before .before .if1 .left) (c .before .before .step .ensures)
 
