@@ -18,7 +18,6 @@ use Rattle.plan.specs.declared.Plan.the-variants as plan
 use Rattle.sweep.specs.declared.Course.{Course}
 use Rattle.sweep.specs.declared.Course.the-variants.{Going, Stopped}
 use Rattle.sweep.specs.declared.Sweep.{Sweep}
-use Rattle.sweep.specs.declared.Swept.{Swept}
 use Rattle.sweep.specs.Sweep.{fitAllLocations, solvesOf, endingAt, endingOf}
 use Rattle.sweep.specs.Finish.{finishOf}
 use Rattle.sweep.proofs.Reached.{ReachedAt, sweep-reached, stopped-at, reached-few}
