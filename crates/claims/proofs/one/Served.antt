@@ -33,7 +33,7 @@ use Rattle.gwr.specs.declared.FitAnswer.the-variants as fit
 use Rattle.gwr.specs.declared.Fit.{Fit}
 use Rattle.gwr.specs.Fit.{finalOf}
 use Rattle.claims.specs.DemandOne.{plusSquare, plusLeverage, RowOf, FitAnswered}
-use Rattle.claims.proofs.three.Untouched.{next-row, farther, put-behind, put-front}
+use Rattle.claims.proofs.Rows.{next-row, farther, put-behind, put-front}
 
 -- ---- a part of a list
 

@@ -1,8 +1,7 @@
 -- One local solve: which are refused, by the list of its tests.
-use mathlib.Core.Path.{_≡_, refl, subst, subst⁻¹}
+use mathlib.Core.Path.{_≡_, refl, subst}
 use mathlib.Core.Bool.{Bool, true, false, cond, not}
-use mathlib.Core.List.{List, [], _∷_}
-use mathlib.Core.Logic.{_⊎_, inl, inr}
+use mathlib.Core.Logic.{inl, inr}
 use Prim.Native.Nat.{ℕ, _+_}
 use Rattle.real.specs.Matrix.{Row, Matrix}
 use Rattle.refusal.specs.declared.Refusal.{Refusal}
@@ -23,33 +22,18 @@ use Rattle.local.specs.declared.Values.{Values}
 use Rattle.local.specs.declared.Outcome.{Outcome}
 use Rattle.local.specs.declared.Outcome.the-variants as outcome
 use Rattle.local.specs.Solve.{outcomeOf, solveLocal, solveLocation}
+use Rattle.local.proofs.Refusals.{AtLocation}
 use Rattle.claims.specs.DemandOne.{solveTests, Found, Met}
-
--- 14, 15 or 16
-abbrev pub AtLocation : Refusal → Type 0
-AtLocation r = (r ≡ Singular) ⊎ ((r ≡ InverseNotFinite) ⊎ (r ≡ CoefficientNotFinite))
 
 pub at-met : (r : Refusal) → AtLocation r → Met r
 at-met r (inl e) = inl e
 at-met r (inr (inl e)) = inr (inl e)
 at-met r (inr (inr e)) = inr (inr (inl e))
 
-abbrev pub OutcomeAt : Outcome → Type 0
-OutcomeAt (outcome.Found v) = Unit {0}
-OutcomeAt (outcome.Refused r) = AtLocation r
-
 -- what the tests make of a solve
 abbrev As : Check → Outcome → Type 0
 As check.Pass o = Found o
-As (check.Refused r) o = (o ≡ outcome.Refused r) × AtLocation r
-
-found-at : (o : Outcome) → Found o → OutcomeAt o
-found-at (outcome.Found v) h = tt
-found-at (outcome.Refused r) h = absurd h
-
-as-at : (c : Check) (o : Outcome) → As c o → OutcomeAt o
-as-at check.Pass o h = found-at o h
-as-at (check.Refused r) o h = subst⁻¹ OutcomeAt (h .0) (h .1)
+As (check.Refused r) o = o ≡ outcome.Refused r
 
 module _ (u : Setup) (d : Data) (b : GwrBandwidth) (i : ℕ) where
   abbrev w : Row
@@ -68,9 +52,9 @@ module _ (u : Setup) (d : Data) (b : GwrBandwidth) (i : ℕ) where
       (outcomeOf (cond s (cond f (cond g (record { estimate = estimate.Fitted; beta = beta }) (refusedWith CoefficientNotFinite)) (refusedWith InverseNotFinite)) (refusedWith Singular) .estimate) v)
   unfolding outcomeOf
   three true true true v = tt
-  three true true false v = (refl, inr (inr refl))
-  three true false g v = (refl, inr (inl refl))
-  three false f g v = (refl, inl refl)
+  three true true false v = refl
+  three true false g v = refl
+  three false f g v = refl
 
   solve-as : As (judge (solveTests u d b i)) (solveLocation u d b i .outcome)
   unfolding judge solveLocation solveLocal fitCoefficients fromInverse
@@ -79,9 +63,6 @@ module _ (u : Setup) (d : Data) (b : GwrBandwidth) (i : ℕ) where
   pub solve-decides : Decides (solveTests u d b i) (λ (r : Refusal). solveLocation u d b i .outcome ≡ outcome.Refused r) (Found (solveLocation u d b i .outcome))
   solve-decides =
       record {
-        refused = λ r h. subst (λ (c : Check). As c (solveLocation u d b i .outcome)) h solve-as .0;
+        refused = λ r h. subst (λ (c : Check). As c (solveLocation u d b i .outcome)) h solve-as;
         served = λ h. subst (λ (c : Check). As c (solveLocation u d b i .outcome)) h solve-as;
       }
-
-  pub location-at : OutcomeAt (solveLocation u d b i .outcome)
-  location-at = as-at (judge (solveTests u d b i)) (solveLocation u d b i .outcome) solve-as
