@@ -1,6 +1,6 @@
 -- Demand 2: document 01 sets the steps of exp and ln and adds limits; else the Rust rules. Kernels, golden section, AICc and square root are held against their published definitions, the listed spots apart.
 -- Definitions only; proofs/DemandTwo proves it, each part by a theorem of the crate that has the definition.
--- That `gwr_fit` equals `fitOf`, in every bit of its answer and its output and on every input, is its contract; `fitOf` is 000's `gwr_fit` line by line. Here is what it says beyond that.
+-- That `gwr_fit` equals `gwrFit`, in every bit of its answer and its output and on every input, is its contract; `gwrFit` is 000's `gwr_fit` line by line. Here is what it says beyond that.
 use Prim.Native.Nat.{ℕ, _+_, _-_, _*_, _/_, _%_, _^_, _≤_, _<_}
 use mathlib.Core.Path.{_≡_}
 use mathlib.Core.Bool.{Bool, true, false, not, cond}
@@ -24,14 +24,18 @@ use Rattle.kernel.specs.declared.GwrKernel.{GwrKernel}
 use Rattle.kernel.specs.declared.GwrKernel.the-variants.{Gaussian, Bisquare, Exponential}
 use Rattle.kernel.specs.Weight.{unusable, weightOf, FromZeroToOne}
 use Rattle.kernel.specs.Published.{kernelFormula, exactWeight, powerOfE, plainWeight}
+use Rattle.checks.specs.Judge.{NoneOf}
 use Rattle.setup.specs.declared.GwrBandwidth.{GwrBandwidth}
+use Rattle.setup.specs.declared.Setup.{Setup}
+use Rattle.setup.specs.Data.{Data}
+use Rattle.setup.specs.Shape.{setupOf}
 use Rattle.counts.specs.Count.{ceilRoot, LeastRoot}
 use Rattle.neighbours.specs.declared.Own.the-variants.{At}
 use Rattle.neighbours.specs.Walk.{between, nearestOf}
 use Rattle.neighbours.specs.Smallest.{allDistances, metDistances, Ascending, kthNearest}
-use Rattle.normal.specs.Weights.{weightsAt}
-use Rattle.local.specs.Estimate as estimate
-use Rattle.local.specs.NormalEquations.{ExactFit, Solves}
+use Rattle.weights.specs.Weights.{weightsAt}
+use Rattle.estimate.specs.Estimate.{fitCoefficients}
+use Rattle.estimate.specs.NormalEquations.{ExactFit, Solves}
 use Rattle.criterion.specs.declared.Criterion.the-variants as criterion
 use Rattle.criterion.specs.Published.{deviation, freedom, aiccPublished, aiccFormula}
 use Rattle.criterion.specs.Aicc.{pi64, exhausted, correctedAic}
@@ -41,22 +45,25 @@ use Rattle.golden.specs.Points as points
 use Rattle.golden.specs.Kiefer.{Span, Inside, Framed, Ordered, KieferRound, Narrowed, triedOf, playedOf, SearchInside, Valley, ScoredBy, Follows}
 use Rattle.setup.specs.declared.GwrOptions.{GwrOptions}
 use Rattle.plan.specs.declared.Plan.the-variants as plan
-use Rattle.plan.specs.Plan.{acceptOf, bandwidthAt}
-use Rattle.gwr.specs.Search.{trialOf, goldenSectionMin}
-use Rattle.gwr.specs.Fit.{finalOf, jobData, fitOf}
-use Rattle.claims.specs.Conditions.{None, inputConditions}
+use Rattle.plan.specs.declared.Acceptance.the-variants as acceptance
+use Rattle.plan.specs.Bounds.{bandwidthAt}
+use Rattle.plan.specs.Checks.{fitTests}
+use Rattle.plan.specs.Plan.{acceptOf}
+use Rattle.search.specs.Search.{trialOf}
+use Rattle.search.specs.Literal.{goldenSectionMin}
+use Rattle.gwr.specs.Fit.{finalOf, gwrFit}
 
 pub record DemandTwo : Type 1 where
   -- ---- golden section: 000's `golden_section_min` as it is written
 
   -- an unsearched fit, and a search with no trial, are a final fit at once
-  pub settled : (coords x y : List Float) (p : ℕ) (o : GwrOptions) (out : List Float) (b : GwrBandwidth) → acceptOf coords x y p o (length out) ≡ plan.Settled b
-      → fitOf coords x y p o out ≡ finalOf (jobData coords x y p) o b 0 out
+  pub settled : (d : Data) (p : ℕ) (o : GwrOptions) (out : List Float) (b : GwrBandwidth) → acceptOf d p o (length out) ≡ acceptance.Planned (plan.Settled b)
+      → gwrFit d p o out ≡ finalOf (setupOf d p o) d b 0 out
   -- a searched one is a final fit at the point that `golden_section_min` finds, after its solves
-  pub searched : (coords x y : List Float) (p : ℕ) (o : GwrOptions) (out : List Float) (lo hi : Float) → acceptOf coords x y p o (length out) ≡ plan.Sought lo hi →
-      let d = jobData coords x y p in
-      let m = goldenSectionMin (trialOf d o) lo hi in
-      fitOf coords x y p o out ≡ finalOf d o (bandwidthAt (o .bandwidth) (m .0) (d .n) (d .p)) (m .1) out
+  pub searched : (d : Data) (p : ℕ) (o : GwrOptions) (out : List Float) (lo hi : Float) → acceptOf d p o (length out) ≡ acceptance.Planned (plan.Sought lo hi) →
+      let u = setupOf d p o in
+      let m = goldenSectionMin (trialOf u d) lo hi in
+      gwrFit d p o out ≡ finalOf u d (bandwidthAt u (m .0)) (m .1) out
   -- the constants of the code are the root of 5, less 1, over 2, and its square, as 000 works them out
   pub ratio : (G ≡ invPhi) × (G2 ≡ invPhi2)
   -- Kiefer 1953: a round keeps the part about the lower score, reuses one inner point and its score, and makes one new trial
@@ -71,9 +78,9 @@ pub record DemandTwo : Type 1 where
   -- and of G that is 38494044947129 / 2^98, below 2^-52; G2 - (1 - G) is 2^-53
   pub ratio-near : points.NearGolden
   -- an accepted job's search goes between finite numbers lo ≤ hi whose difference is finite
-  pub search-span : (coords x y : List Float) (p : ℕ) (o : GwrOptions) (out : List Float) (lo hi : Float) → acceptOf coords x y p o (length out) ≡ plan.Sought lo hi → Span lo hi
+  pub search-span : (d : Data) (p : ℕ) (o : GwrOptions) (out : List Float) (lo hi : Float) → acceptOf d p o (length out) ≡ acceptance.Planned (plan.Sought lo hi) → Span lo hi
   -- of any number of its rounds, every point tried lies from lo to hi, rounding included, and the answer is a point tried
-  pub points-inside : (coords x y : List Float) (p : ℕ) (o : GwrOptions) (out : List Float) (lo hi : Float) → acceptOf coords x y p o (length out) ≡ plan.Sought lo hi
+  pub points-inside : (d : Data) (p : ℕ) (o : GwrOptions) (out : List Float) (lo hi : Float) → acceptOf d p o (length out) ≡ acceptance.Planned (plan.Sought lo hi)
       → (s t : Float) (l : List Float) → SearchInside lo hi s t l
   -- as of every search between such numbers
   pub span-inside : {lo hi : Float} → Span lo hi → (s t : Float) (l : List Float) → SearchInside lo hi s t l
@@ -88,7 +95,7 @@ pub record DemandTwo : Type 1 where
   -- ---- the local solve: Fotheringham, Brunsdon and Charlton 2002
 
   -- where nothing was rounded, the coefficients solve (XᵀWX) β = XᵀWy
-  pub normal-equations : (x y w : List Float) (n p : ℕ) → ExactFit x y w n p → Solves x y w n p (estimate.fitOf x y w n p .0 .beta)
+  pub normal-equations : (u : Setup) (d : Data) (w : List Float) → ExactFit u d w → Solves u d w (fitCoefficients u d w .0 .beta)
   -- ---- the square root: IEEE 754, nearest, ties to the even last bit
 
   -- of a positive finite number every other binary64 lies farther from the exact root, so that no tie occurs
@@ -132,18 +139,19 @@ pub record DemandTwo : Type 1 where
   pub weight-range : (k : GwrKernel) (d b : Float) → T (le zero64 d) → FromZeroToOne (weightOf k d b)
   pub weight-own : (k : GwrKernel) (s : Bool) (b : Float) → weightOf k (fin s 0 (pos 0)) b ≡ one64
   -- 000's refusal of a weight sum not above zero never occurs: it is finite and above 0 at every location of every accepted job, whichever bandwidth
-  pub weight-sum : (coords x y : List Float) (p : ℕ) (o : GwrOptions) (out : ℕ) → None (inputConditions coords x y p o out) → (i : ℕ) → i < length coords / 2 → (k : GwrKernel) (b : Float) →
-      let sum = weightsAt (jobData coords x y p) k i b .1 in
+  pub weight-sum : (d : Data) (p : ℕ) (o : GwrOptions) (out : ℕ) → NoneOf (fitTests d p o out) → (i : ℕ) → i < setupOf d p o .n → (b : Float) →
+      let sum = weightsAt (setupOf d p o) d i b .1 in
       T (finite sum) × T (lt zero64 sum)
   -- ---- neighbours
 
   -- a location's bandwidth is its k-th smallest distance to the others (`allDistances`), if that is zero the greatest of them and EPS
-  pub kth-smallest : (coords x y : List Float) (p : ℕ) (o : GwrOptions) (out : ℕ) → None (inputConditions coords x y p o out) → (i k : ℕ) → i < length coords / 2 → 1 ≤ k
-      → nearestOf coords (length coords / 2) i k ≡ kthNearest (At i) (between coords i) (length coords / 2) k
+  pub kth-smallest : (d : Data) (p : ℕ) (o : GwrOptions) (out : ℕ) → NoneOf (fitTests d p o out) → (i k : ℕ) →
+      let n = setupOf d p o .n in
+      i < n → 1 ≤ k → nearestOf (d .coords) n i k ≡ kthNearest (At i) (between (d .coords) i) n k
   -- `allDistances` has every one of them, in ascending order
   pub all-distances : (coords : List Float) (i m : ℕ) → List·Permᴰ (allDistances (At i) (between coords i) m) (metDistances (At i) (between coords i) m)
-  pub ascending : (coords x y : List Float) (p : ℕ) (o : GwrOptions) (out : ℕ) → None (inputConditions coords x y p o out) → (i : ℕ) → i < length coords / 2
-      → Ascending (allDistances (At i) (between coords i) (length coords / 2))
+  pub ascending : (d : Data) (p : ℕ) (o : GwrOptions) (out : ℕ) → NoneOf (fitTests d p o out) → (i : ℕ) → i < setupOf d p o .n
+      → Ascending (allDistances (At i) (between (d .coords) i) (setupOf d p o .n))
   -- count 0 is the larger of 2 and the least whole number whose square is at least n
   pub least-root : (n : ℕ) → LeastRoot n (ceilRoot n)
   -- ---- AICc: Fotheringham, Brunsdon and Charlton 2002
