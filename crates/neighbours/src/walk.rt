@@ -5,8 +5,8 @@ ghost use Prim.Native.Nat.{_+_, _-_, _*_, _≤_, _<_};
 ghost use lib.ListN.{length, take, getD};
 ghost use Rattle.real.specs.Reals.{zero64};
 ghost use Rattle.neighbours.specs.Walk.{Keeps, Walked, keep, meet, foundBy, isOwn, pass, walkOn, distanceFrom, nearestFrom, walkIn};
-use crate::insert;
 use crate::Own;
+use crate::insert;
 
 // How far a walk has come: how many distances are kept, and the greatest of all that it met.
 pub struct Walker {
