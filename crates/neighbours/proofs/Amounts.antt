@@ -22,7 +22,7 @@ use Rattle.neighbours.specs.Insert.{rankOf, insert}
 use Rattle.neighbours.specs.declared.Own.{Own}
 use Rattle.neighbours.specs.declared.Own.the-variants.{At, Nobody}
 use Rattle.neighbours.specs.Walk.{isOwn}
-use Rattle.neighbours.specs.Smallest.{joined, allDistances, Ascending}
+use Rattle.neighbours.specs.Smallest.{insertStep, allDistances, Ascending}
 use Rattle.neighbours.specs.Sums.{OwnBelow, others}
 use Rattle.neighbours.proofs.Smallest.{ins-is, number-le}
 
@@ -56,8 +56,8 @@ module _ (p : Float → Bool) where
 
   -- all distances, by their pantries
   module _ (own : Own) (d : ℕ → Float) where
-    amount-joined : (j : ℕ) (l : List Float) (c : ℕ) → amount p l ≡ c → amount p (joined own d j l) ≡ tallyStep (λ q. not (isOwn own q) && p (d q)) j c
-    unfolding joined tallyStep
+    amount-joined : (j : ℕ) (l : List Float) (c : ℕ) → amount p l ≡ c → amount p (insertStep own d j l) ≡ tallyStep (λ q. not (isOwn own q) && p (d q)) j c
+    unfolding insertStep tallyStep
     amount-joined j l c e = go (isOwn own j)
       where
         inner : (b : Bool) → cond b (suc (amount p l)) (amount p l) ≡ cond b (c + 1) c
@@ -68,10 +68,10 @@ module _ (p : Float → Bool) where
         go true = e
         go false = amount-inserted (d j) l ∙ inner (p (d j))
 
-    amount-walked : (n : ℕ) → amount p (turns (joined own d) 0 n []) ≡ turns (tallyStep (λ q. not (isOwn own q) && p (d q))) 0 n 0
+    amount-walked : (n : ℕ) → amount p (turns (insertStep own d) 0 n []) ≡ turns (tallyStep (λ q. not (isOwn own q) && p (d q))) 0 n 0
     unfolding turns amount
     amount-walked zero = refl
-    amount-walked (suc n) = amount-joined (0 + n) (turns (joined own d) 0 n []) _ (amount-walked n)
+    amount-walked (suc n) = amount-joined (0 + n) (turns (insertStep own d) 0 n []) _ (amount-walked n)
 
     pub amount-all : (m : ℕ) → amount p (allDistances own d m) ≡ tally (λ q. not (isOwn own q) && p (d q)) m
     unfolding allDistances tally range

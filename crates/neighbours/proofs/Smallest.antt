@@ -19,9 +19,8 @@ use Rattle.kernel.proofs.DistanceRange.{distance-number}
 use Rattle.root.proofs.Order.{not-both}
 use Rattle.neighbours.specs.Insert.{rankOf, insert}
 use Rattle.neighbours.specs.declared.Own.{Own}
-use Rattle.neighbours.specs.declared.Own.the-variants.{At, Nobody}
 use Rattle.neighbours.specs.Walk.{Walk, keep, meet, isOwn, pass, unmet, walkOn, foundBy, distanceFrom, nearestFrom}
-use Rattle.neighbours.specs.Smallest.{joined, allDistances, fronted, metDistances, Ascending, kthOf, greatStep, greatestMet, kthNearest}
+use Rattle.neighbours.specs.Smallest.{insertStep, allDistances, frontStep, metDistances, Ascending, kthOf, greatStep, greatestMet, kthNearest}
 use Rattle.neighbours.proofs.Inserts.{rank-take, rank-within, length-inserted, keep-first, keep-second, keep-third}
 
 abbrev Number : Float → Type 0
@@ -228,8 +227,8 @@ pub record Cut (k : ℕ) (all kept : List Float) : Type 0 where
   pub cut : kept ≡ take k all
 
 module _ (own : Own) (d : ℕ → Float) (k : ℕ) (o : 1 ≤ k) where
-  one-on : (j : ℕ) (all : List Float) (w : Walk) → (isOwn own j ≡ false → Number (d j)) → Cut k all (w .kept) → Cut k (joined own d j all) (pass own d k j w .kept)
-  unfolding joined pass meet
+  one-on : (j : ℕ) (all : List Float) (w : Walk) → (isOwn own j ≡ false → Number (d j)) → Cut k all (w .kept) → Cut k (insertStep own d j all) (pass own d k j w .kept)
+  unfolding insertStep pass meet
   one-on j all w n c = go (isOwn own j) n
     where
       go : (b : Bool) → (b ≡ false → Number (d j)) → Cut k (cond b all (insert (d j) all)) (cond b w (meet k (d j) w) .kept)
@@ -240,10 +239,10 @@ module _ (own : Own) (d : ℕ → Float) (k : ℕ) (o : 1 ≤ k) where
             cut = ap (keep k (d j)) (c .cut) ∙ keep-cut (d j) (m refl) all (c .up) k o;
           }
 
-  walked : (n m : ℕ) → n ≤ m → ((j : ℕ) → j < m → isOwn own j ≡ false → Number (d j)) → Cut k (turns (joined own d) 0 n []) (turns (pass own d k) 0 n unmet .kept)
+  walked : (n m : ℕ) → n ≤ m → ((j : ℕ) → j < m → isOwn own j ≡ false → Number (d j)) → Cut k (turns (insertStep own d) 0 n []) (turns (pass own d k) 0 n unmet .kept)
   unfolding turns
   walked zero m h ok = record { up = record { ordered = λ a b p q. absurd (not-suc-le-zero q) }; cut = sym (take-nil k) }
-  walked (suc n) m h ok = one-on (0 + n) (turns (joined own d) 0 n []) (turns (pass own d k) 0 n unmet) (ok (0 + n) (omega arith)) (walked n m (omega arith) ok)
+  walked (suc n) m h ok = one-on (0 + n) (turns (insertStep own d) 0 n []) (turns (pass own d k) 0 n unmet) (ok (0 + n) (omega arith)) (walked n m (omega arith) ok)
 
   -- where no distance is NaN, all in turn inserted are in ascending order, and the walk keeps the first k of them
   pub kept-smallest : (m : ℕ) → ((j : ℕ) → j < m → isOwn own j ≡ false → Number (d j)) → Cut k (allDistances own d m) (walkOn own d k 0 m unmet .kept)
@@ -306,15 +305,15 @@ inserted-perm x l =
     (subst (λ (s : List Float). List·Permᴰ (take p l ++ x ∷ drop p l) (x ∷ s)) (take-append-drop p l) (Permᴰ·middle x (take p l) (drop p l)))
 
 module _ (own : Own) (d : ℕ → Float) where
-  one-met : (j : ℕ) (l s : List Float) → List·Permᴰ l s → List·Permᴰ (joined own d j l) (fronted own d j s)
-  unfolding joined fronted
+  one-met : (j : ℕ) (l s : List Float) → List·Permᴰ l s → List·Permᴰ (insertStep own d j l) (frontStep own d j s)
+  unfolding insertStep frontStep
   one-met j l s r = go (isOwn own j)
     where
       go : (b : Bool) → List·Permᴰ (cond b l (insert (d j) l)) (cond b s (d j ∷ s))
       go true = r
       go false = List·Permᴰ·trans (inserted-perm (d j) l) (List·Permᴰ·cons refl r)
 
-  met-walked : (n : ℕ) → List·Permᴰ (turns (joined own d) 0 n []) (turns (fronted own d) 0 n [])
+  met-walked : (n : ℕ) → List·Permᴰ (turns (insertStep own d) 0 n []) (turns (frontStep own d) 0 n [])
   unfolding turns
   met-walked zero = List·Permᴰ·nil
   met-walked (suc n) = one-met (0 + n) _ _ (met-walked n)

@@ -1,5 +1,5 @@
 -- `pass`, `found_by` and the loop of `walk_on`: the buffer's first numbers and the greatest are the walk so far; a walk taken up again is the walk. Assumes nothing.
-use mathlib.Core.Path.{_≡_, refl, sym, ap, _∙_, subst}
+use mathlib.Core.Path.{_≡_, refl, sym, ap, _∙_}
 use mathlib.Core.Bool.{Bool, true, false, cond}
 use mathlib.Core.List.{List}
 use Prim.Native.Nat.{ℕ, _+_, _-_, _≤_, _<_}
@@ -10,7 +10,7 @@ use lib.Ieee.{Float, lt}
 use Rattle.real.specs.Reals.{zero64, greater, eps64}
 use Rattle.real.proofs.Fold.{Range, none, more, done, split}
 use Rattle.neighbours.specs.declared.Own.{Own}
-use Rattle.neighbours.specs.Walk.{Walk, keep, meet, isOwn, pass, unmet, walkOn, foundBy, Keeps, Walked, walkIn}
+use Rattle.neighbours.specs.Walk.{Walk, keep, meet, isOwn, pass, walkOn, foundBy, Keeps, Walked, walkIn}
 use Rattle.neighbours.proofs.Inserts.{keep-few}
 
 -- ---- a walk stopped and taken up again from there ends as an unbroken one does

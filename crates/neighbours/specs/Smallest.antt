@@ -13,24 +13,24 @@ use Rattle.neighbours.specs.Walk.{isOwn}
 
 -- In all of these the distance to pantry j is d j, and the own pantry, if there is one, is left out.
 -- the list with the distance to pantry j inserted
-unfoldable pub joined : Own → (ℕ → Float) → ℕ → List Float → List Float
+unfoldable pub insertStep : Own → (ℕ → Float) → ℕ → List Float → List Float
 unfolding isOwn insert
-joined own d j l = cond (isOwn own j) l (insert (d j) l)
+insertStep own d j l = cond (isOwn own j) l (insert (d j) l)
 
 -- all distances to the first m pantries, each inserted in turn
 unfoldable pub allDistances : Own → (ℕ → Float) → ℕ → List Float
-unfolding range joined
-allDistances own d m = range (joined own d) 0 m []
+unfolding range insertStep
+allDistances own d m = range (insertStep own d) 0 m []
 
 -- the list with the distance to pantry j in front
-unfoldable pub fronted : Own → (ℕ → Float) → ℕ → List Float → List Float
+unfoldable pub frontStep : Own → (ℕ → Float) → ℕ → List Float → List Float
 unfolding isOwn
-fronted own d j l = cond (isOwn own j) l (d j ∷ l)
+frontStep own d j l = cond (isOwn own j) l (d j ∷ l)
 
 -- the distances to the first m pantries as they are met, the last one first
 unfoldable pub metDistances : Own → (ℕ → Float) → ℕ → List Float
-unfolding range fronted
-metDistances own d m = range (fronted own d) 0 m []
+unfolding range frontStep
+metDistances own d m = range (frontStep own d) 0 m []
 
 -- no number is below an earlier one, and none is NaN
 pub record Ascending (l : List Float) : Type 0 where
