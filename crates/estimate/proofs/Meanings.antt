@@ -5,7 +5,6 @@ use mathlib.Core.Logic.{_↔_, inl, inr}
 use Prim.Native.Nat.{ℕ, zero, suc, _+_, _<_}
 use native.Mathlib.Nat.{zero-add, sub-zero}
 use native.Mathlib.Omega.{arith}
-use borrow.Author.Tests.{and-true, not-true, not-false}
 use lib.Dec.{T}
 use lib.ListN.{getD}
 use lib.Ieee.{Float, nan}
@@ -22,6 +21,10 @@ Some m P = (q : ℕ) × (q < m) × P q
 
 never : {A : Type 0} → true ≡ false → A
 never e = absurd (subst T e tt)
+
+and-true : (a b : Bool) → (a && b) ≡ true → (a ≡ true) × (b ≡ true)
+and-true true b e = (refl, e)
+and-true false b e = never (sym e)
 
 module _ (f : ℕ → Bool) where
   turns-not : (m : ℕ) → turns (allStep f) 0 m true ≡ false → Some m (λ (q : ℕ). f q ≡ false)
