@@ -15,6 +15,7 @@ use Rattle.stepping.specs.declared.Stage.{Stage}
 use Rattle.stepping.specs.declared.Stage.the-variants.{First, Second, Round, Final, Ended}
 use Rattle.stepping.specs.declared.Job.{Job}
 use Rattle.stepping.specs.Sound.{OfKind, TrialsAt, endedSolve, Sound}
+use Rattle.stepping.proofs.Sounds.{trials-few}
 use Rattle.job.specs.Fitness.{sizesFit, kindsFit, trialsFit, solvesFit, isFit}
 
 most-means : (a b : ℕ) → Means (leb a b) (a ≤ b)
@@ -45,15 +46,18 @@ trials-mean Round t = and-means (leb 2 t) (leb t 101) (most-means 2 t) (most-mea
 trials-mean Final t = most-means t 102
 trials-mean (Ended c) t = most-means t 102
 
+pub trials-fit-few : (x : Stage) (t : ℕ) → trialsFit x t ≡ true → t ≤ 102
+trials-fit-few x t e = trials-few x t (trials-mean x t .0 e)
+
 -- 01: a record is fit exactly when all of these hold
 pub fit-means : (j : Job) → Means (isFit j) (Sound (endedSolve (j .stage)) j)
 unfolding isFit solvesFit
 fit-means j =
     let m =
-        and-means (sizesFit (j .setup) (j .sweep .location)) _ (sizes-means (j .setup) (j .sweep .location))
-        (and-means (kindsFit (j .setup .options .bandwidth) (j .bandwidth)) _ (kinds-means (j .setup .options .bandwidth) (j .bandwidth))
-        (and-means (trialsFit (j .stage) (j .trials .made)) _ (trials-mean (j .stage) (j .trials .made))
-        (most-means (j .solves) (j .trials .made * j .setup .n + j .sweep .location + endedSolve (j .stage)))))
+    and-means (sizesFit (j .setup) (j .sweep .location)) _ (sizes-means (j .setup) (j .sweep .location))
+    (and-means (kindsFit (j .setup .options .bandwidth) (j .bandwidth)) _ (kinds-means (j .setup .options .bandwidth) (j .bandwidth))
+    (and-means (trialsFit (j .stage) (j .trials .made)) _ (trials-mean (j .stage) (j .trials .made))
+    (most-means (j .solves) (j .trials .made * j .setup .n + j .sweep .location + endedSolve (j .stage)))))
     in (
       λ e. let h = m .0 e in record { sized = h .0 .0; within = h .0 .1; kind = h .1 .0; solves = h .1 .1 .1; trials = h .1 .1 .0 },
       λ s. m .1 ((s .sized, s .within), (s .kind, (s .trials, s .solves))),

@@ -28,7 +28,7 @@ use Rattle.stepping.specs.declared.Job.{Job}
 use Rattle.stepping.specs.Step.{isEnded, stepOf, isOver}
 use Rattle.stepping.specs.Sound.{endedSolve, Sound}
 use Rattle.stepping.proofs.Sounds.{sound-usable}
-use Rattle.stepping.proofs.Keeping.{Held, held-live, live-held, Holds, holds-step}
+use Rattle.stepping.proofs.Keeping.{held-live, sound-held, Holds, holds-step}
 use Rattle.job.specs.declared.Answer.{Answer}
 use Rattle.job.specs.declared.Answer.the-variants as answer
 use Rattle.job.specs.declared.Turned.{Turned}
@@ -116,9 +116,9 @@ pub record Reached (d : Data) (allowance : ℕ) (j₀ : Job) (out₀ : List Floa
   pub holds : Holds (j₀ .setup) (length out₀) (j, out)
 
 module _ (d : Data) {allowance : ℕ} {j₀ : Job} {out₀ : List Float} where
-  -- a job that has not ended, before the first step
-  pub reached-none : Held j₀ → Reached d allowance j₀ out₀ allowance 0 j₀ out₀
-  reached-none s = record { running = running-none; holds = record { setup = refl; held = s; length-is = refl } }
+  -- before the first step
+  pub reached-none : Sound 0 j₀ → Reached d allowance j₀ out₀ allowance 0 j₀ out₀
+  reached-none s = record { running = running-none; holds = record { setup = refl; held = sound-held j₀ s; length-is = refl } }
 
   module _ {left made : ℕ} {j : Job} {out : List Float} (r : Reached d allowance j₀ out₀ left made j out) where
     pub reached-usable : Usable (j .bandwidth)

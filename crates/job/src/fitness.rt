@@ -20,9 +20,11 @@ fn both(a: bool, b: bool) -> bool
 fn sizes_fit(u: Setup, location: usize) -> bool
     ensures { λ r. ⌜ r ≡ sizesFit u location ⌝ }
 {
-    if u.n <= 512 {
-        if u.p <= 7 {
-            return both(u.p + 1 <= u.n, location < u.n);
+    let n = u.n;
+    let p = u.p;
+    if n <= 512 {
+        if p <= 7 {
+            return both(p + 1 <= n, location < n);
         }
     }
     false

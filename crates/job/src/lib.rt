@@ -4,10 +4,9 @@ mod starting; // the first trial or the final fit set up
 mod turns; // the refusals of a turn, and its run of steps
 
 use refusal::Refusal;
+pub use starting::begin;
 use stepping::Job;
 use sweep::Finish;
-
-pub use starting::begin;
 pub use turns::turn;
 
 // What beginning answers; a refused one makes no job.

@@ -4,6 +4,8 @@ ghost use lib.ListN.{length};
 ghost use Rattle.setup.specs.Data.{dataOf};
 ghost use Rattle.setup.specs.Shape.{Sized};
 ghost use Rattle.job.specs.Begin.{blankJob, startJob, beginOf};
+use super::Beginning;
+use super::Begun;
 use golden::Bracket;
 use plan::Acceptance;
 use plan::Plan;
@@ -12,8 +14,6 @@ use setup::GwrOptions;
 use setup::Setup;
 use stepping::Job;
 use stepping::Stage;
-use super::Beginning;
-use super::Begun;
 
 // A record that every turn refuses.
 fn blank(options: GwrOptions) -> Job

@@ -8,14 +8,14 @@ ghost use Rattle.setup.specs.Shape.{Sized, Shaped};
 ghost use Rattle.checks.specs.Judge.{judge};
 ghost use Rattle.stepping.specs.Sound.{Sound};
 ghost use Rattle.job.specs.Turn.{lentTests, turnTests, answerAt, tellOf, runOf, turnOf};
+use super::Answer;
+use super::Turned;
+use super::fitness::is_fit;
 use checks::Check;
 use refusal::Refusal;
 use setup::Setup;
 use stepping::Job;
 use stepping::Stage;
-use super::Answer;
-use super::Turned;
-use super::fitness::is_fit;
 
 // Refusal 21, then 8, 9, 10 and 13, of what a turn is lent.
 fn check_lent(coords: &[f64], x: &[f64], y: &[f64], u: Setup, out: usize) -> Check

@@ -53,8 +53,9 @@ solve-live (Ended c) h = absurd (true≢false h)
 pub held-live : (j : Job) → isEnded (j .stage) ≡ false → Held j → Sound 0 j
 held-live j live h = subst (λ (k : ℕ). Sound k j) (solve-live (j .stage) live) h
 
-pub live-held : (j : Job) → isEnded (j .stage) ≡ false → Sound 0 j → Held j
-live-held j live s = subst⁻¹ (λ (k : ℕ). Sound k j) (solve-live (j .stage) live) s
+-- a record that is sound before a step is sound as it is
+pub sound-held : (j : Job) → Sound 0 j → Held j
+sound-held j s = record { sized = s .sized; within = s .within; kind = s .kind; solves = omega (arith, s .solves); trials = s .trials }
 
 -- ---- a sweep is over
 
@@ -120,7 +121,7 @@ pass-held j w s e live =
     let k = solved-sound w s e in
     either Held (eqb (w .location + 1) (j .setup .n)) _ _
     (λ f. close-held (solvedJob j w) _ k live)
-    (λ f. live-held (solvedJob j (nextLocation w)) live (moved-sound j w k (eqb-false _ _ f)))
+    (λ f. sound-held (solvedJob j (nextLocation w)) (moved-sound j w k (eqb-false _ _ f)))
 
 outcome-held : (j : Job) (o : Outcome) → Sound 0 j → isEnded (j .stage) ≡ false → Held (afterOutcome j o)
 outcome-held j (outcome.Found v) s live = pass-held j (addValues (j .sweep) v) s refl live

@@ -105,13 +105,13 @@ impl Job {
         let made = self.trials.made + 1;
         let trials = Trials { bracket, made };
         let bandwidth = plan::bandwidth_at(setup, point);
-        let sweep = Sweep::new(); // no sum of a trial outlives it, failed or not
+        let fresh = Sweep::new();
         Job {
             setup,
             stage,
             trials,
             bandwidth,
-            sweep,
+            sweep: fresh, // no sum of a trial outlives it, failed or not
             solves: self.solves,
         }
     }

@@ -1,66 +1,23 @@
+-- `job::turns::answer_at`: by the stage.
 use borrow.Author.Needs.{needs}
+use Rattle.job.proofs.Turning.{answer-ended}
 use Rattle.job.proofs.turns.answer_at.Statement.{statement}
 use Rattle.job.proofs.turns.answer_at.Tie as tie
-use Rattle.job.proofs.turns.answer_at.Reads as reads
-use Rattle.job.proofs.turns.answer_at.Lts as lts
-use Rattle.sweep.proofs.finish_of.Reads as finish-of-reads
 
--- src/turns.rt:57:25
-enum-told : tie.Need-enum-told
-enum-told c = search needs
-
--- src/turns.rt:58:26
-enum-told-2 : tie.Need-enum-told-2
-enum-told-2 c = search needs
-
--- src/turns.rt:59:25
-enum-told-3 : tie.Need-enum-told-3
-enum-told-3 c = search needs
-
--- src/turns.rt:60:25
-enum-told-4 : tie.Need-enum-told-4
-enum-told-4 c = search needs
-
--- src/turns.rt:61:22
-enum-known-stage : tie.Need-enum-known-stage
-enum-known-stage c = search needs
-
--- src/turns.rt:61:47
-finish-of-requires : tie.Need-finish-of-requires
-finish-of-requires c κs = search needs
-
--- src/turns.rt:51:1
 returns : tie.Need-returns
-returns c = ?
+returns c = rw (c .enum-told .given .1)
 
--- src/turns.rt:51:1
 returns-2 : tie.Need-returns-2
-returns-2 c = ?
+returns-2 c = rw (c .enum-told2 .given .1)
 
--- src/turns.rt:51:1
 returns-3 : tie.Need-returns-3
-returns-3 c = ?
+returns-3 c = rw (c .enum-told3 .given .1)
 
--- src/turns.rt:51:1
 returns-4 : tie.Need-returns-4
-returns-4 c = ?
+returns-4 c = rw (c .enum-told4 .given .1)
 
--- src/turns.rt:51:1
 returns-5 : tie.Need-returns-5
-returns-5 c = ?
+returns-5 c = answer-ended _ _ _ _ (c .before .before .stage .given .1) (c .finish-of .ensures)
 
 pub answer-at-spec : {M : Type 1} → statement M
-answer-at-spec =
-    tie.close
-    (tie.spec
-    enum-told
-    enum-told-2
-    enum-told-3
-    enum-told-4
-    enum-known-stage
-    finish-of-requires
-    returns
-    returns-2
-    returns-3
-    returns-4
-    returns-5)
+answer-at-spec = tie.close (tie.spec (λ c. search needs) (λ c. search needs) (λ c. search needs) (λ c. search needs) (λ c. search needs) (λ c κs. search needs) returns returns-2 returns-3 returns-4 returns-5)

@@ -1,53 +1,18 @@
+-- `job::turns::check_lent`: 21, then the values, then the room.
 use borrow.Author.Needs.{needs}
+use mathlib.Core.Path.{sym, _∙_}
+use Rattle.job.proofs.Turning.{lent-differ, lent-refused, lent-room}
 use Rattle.job.proofs.turns.check_lent.Statement.{statement}
 use Rattle.job.proofs.turns.check_lent.Tie as tie
-use Rattle.job.proofs.turns.check_lent.Reads as reads
-use Rattle.job.proofs.turns.check_lent.Lts as lts
-use Rattle.plan.proofs.check_room.Reads as check-room-reads
-use Rattle.plan.proofs.check_values.Reads as check-values-reads
-use Rattle.plan.proofs.lengths_fit.Reads as lengths-fit-reads
 
--- src/turns.rt:25:8
-lengths-fit-requires : tie.Need-lengths-fit-requires
-lengths-fit-requires c κs = search needs
-
--- src/turns.rt:26:13
-check-values-requires : tie.Need-check-values-requires
-check-values-requires c κs = search needs
-
--- src/turns.rt:28:28
-enum-known-values : tie.Need-enum-known-values
-enum-known-values c = search needs
-
--- src/turns.rt:29:28
-enum-told : tie.Need-enum-told
-enum-told c = search needs
-
--- src/turns.rt:29:28
-check-room-requires : tie.Need-check-room-requires
-check-room-requires c κs = search needs
-
--- src/turns.rt:27:9
 returns : tie.Need-returns
-returns c = ?
+returns c = lent-refused _ _ _ _ (sym (c .before .before .before .before .before .lengths-fit .ensures) ∙ c .before .before .before .before .if1 .taken) (sym (c .before .before .before .check-values .ensures) ∙ c .before .values .given .1)
 
--- src/turns.rt:27:9
 returns-2 : tie.Need-returns-2
-returns-2 c = ?
+returns-2 c = lent-room _ _ _ _ (sym (c .before .before .before .before .before .lengths-fit .ensures) ∙ c .before .before .before .before .if1 .taken) (sym (c .before .before .before .check-values .ensures) ∙ c .before .enum-told .given .1) (c .check-room .ensures)
 
--- src/turns.rt:21:1
 returns-3 : tie.Need-returns-3
-returns-3 c = ?
+returns-3 c = lent-differ _ _ _ (sym (c .before .lengths-fit .ensures) ∙ c .if1 .left)
 
 pub check-lent-spec : {M : Type 1} → statement M
-check-lent-spec =
-    tie.close
-    (tie.spec
-    lengths-fit-requires
-    check-values-requires
-    enum-known-values
-    enum-told
-    check-room-requires
-    returns
-    returns-2
-    returns-3)
+check-lent-spec = tie.close (tie.spec (λ c κs. search needs) (λ c κs. search needs) (λ c. search needs) (λ c. search needs) (λ c κs. search needs) returns returns-2 returns-3)

@@ -1,85 +1,39 @@
+-- `job::turns::run`: what is left to run from here is what was left at the start, less the steps made.
+use borrow.Author.Needs.{needs}
+use mathlib.Core.Path.{sym, _∙_}
+use Rattle.setup.specs.Data.{dataOf}
+use Rattle.job.proofs.Turning.{Reached, reached-none, reached-usable, reached-ready, reached-more, reached-over, reached-spent}
 use Rattle.job.proofs.turns.run.Statement.{statement}
 use Rattle.job.proofs.turns.run.Tie as tie
-use Rattle.job.proofs.turns.run.Reads as reads
-use Rattle.job.proofs.turns.run.Lts as lts
-use Rattle.job.proofs.turns.tell.Reads as tell-reads
-use Rattle.stepping.proofs.Job.step.Reads as step-reads
-use Rattle.stepping.proofs.Stage.is_ended.Reads as is-ended-reads
 
 abbrev Inv-loop : tie.InvT-loop
-Inv-loop coords x y out₀ allowance k₀ left₀ made₀ out k left made = ?
+Inv-loop coords x y out₀ allowance k₀ left₀ made₀ out k left made = Reached (dataOf coords x y) allowance k₀ out₀ left made k out
 
 abbrev μ-loop : tie.MeasureT-loop
-μ-loop coords x y out₀ allowance k₀ left₀ made₀ out k left made = ?
+μ-loop coords x y out₀ allowance k₀ left₀ made₀ out k left made = left
 
--- src/turns.rt:89:5
 loop-holds : tie.Need-loop-holds Inv-loop μ-loop
-loop-holds c = ?
+loop-holds c = reached-none _ (c .before .before .before .before .pre .0)
 
--- src/turns.rt:91:12
-is-ended-requires : tie.Need-is-ended-requires Inv-loop μ-loop
-is-ended-requires c κs = ?
-
--- src/turns.rt:92:13
 tell-requires : tie.Need-tell-requires Inv-loop μ-loop
-tell-requires c κs = ?
+tell-requires c κs = reached-usable _ (c .before .before .before .loop .inv)
 
--- src/turns.rt:92:13
-same-length : tie.Need-same-length Inv-loop μ-loop
-same-length c = ?
-
--- src/turns.rt:92:13
 returns : tie.Need-returns Inv-loop μ-loop
-returns c = ?
+returns c = reached-over _ (c .before .before .before .before .loop .inv) _ (sym (c .before .before .is-ended .ensures) ∙ c .before .if1 .taken) (c .tell .ensures)
 
--- src/turns.rt:94:9
 step-requires : tie.Need-step-requires Inv-loop μ-loop
-step-requires c κs = ?
+step-requires c κs = let s = c .before .before .before .before .before .before .before .before .before in reached-ready _ (c .before .before .before .before .loop .inv) (sym (c .before .before .is-ended .ensures) ∙ c .before .if1 .left) (s .pre .1 .0) (s .pre .1 .1)
 
--- src/turns.rt:95:16
-add-made : tie.Need-add-made Inv-loop μ-loop
-add-made c = ?
-
--- src/turns.rt:96:16
-sub-left : tie.Need-sub-left Inv-loop μ-loop
-sub-left c = ?
-
--- src/turns.rt:89:5
-loop-less : tie.Need-loop-less Inv-loop μ-loop
-loop-less c = ?
-
--- src/turns.rt:89:5
 loop-again : tie.Need-loop-again Inv-loop μ-loop
-loop-again c = ?
+loop-again c =
+    let s = c .before .before .before .before .before .before .before .before .before .before .before .before in
+    reached-more _ (c .before .before .before .before .before .before .before .loop .inv) _ _ (s .pre .1 .1) (search needs) (sym (c .before .before .before .before .before .is-ended .ensures) ∙ c .before .before .before .before .if1 .left) (c .before .before .step .ensures)
 
--- src/turns.rt:98:5
 tell-requires-2 : tie.Need-tell-requires-2 Inv-loop μ-loop
-tell-requires-2 c κs = ?
+tell-requires-2 c κs = reached-usable _ (c .before .loop .inv)
 
--- src/turns.rt:80:1
-same-length-2 : tie.Need-same-length-2 Inv-loop μ-loop
-same-length-2 c = ?
-
--- src/turns.rt:80:1
 returns-2 : tie.Need-returns-2 Inv-loop μ-loop
-returns-2 c = ?
+returns-2 c = reached-spent _ (c .before .before .loop .inv) _ (search needs) (c .tell2 .ensures)
 
 pub run-spec : {M : Type 1} → statement M
-run-spec =
-    tie.close
-    (tie.spec
-    Inv-loop
-    μ-loop
-    loop-holds
-    is-ended-requires
-    tell-requires
-    same-length
-    returns
-    step-requires
-    add-made
-    sub-left
-    loop-less
-    loop-again
-    tell-requires-2
-    same-length-2
-    returns-2)
+run-spec = tie.close (tie.spec Inv-loop μ-loop loop-holds (λ c κs. search needs) tell-requires (λ c. search needs) returns step-requires (λ c. search needs) (λ c. search needs) (λ c. search needs) loop-again tell-requires-2 (λ c. search needs) returns-2)

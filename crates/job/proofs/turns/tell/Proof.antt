@@ -1,17 +1,11 @@
+-- `job::turns::tell`: the answer at its stage.
 use borrow.Author.Needs.{needs}
+use Rattle.job.proofs.Turning.{tell-is}
 use Rattle.job.proofs.turns.tell.Statement.{statement}
 use Rattle.job.proofs.turns.tell.Tie as tie
-use Rattle.job.proofs.turns.tell.Reads as reads
-use Rattle.job.proofs.turns.tell.Lts as lts
-use Rattle.job.proofs.turns.answer_at.Reads as answer-at-reads
 
--- src/turns.rt:71:9
-answer-at-requires : tie.Need-answer-at-requires
-answer-at-requires c κs = search needs
-
--- src/turns.rt:66:1
 returns : tie.Need-returns
-returns c = ?
+returns c = tell-is _ _ _ (c .answer-at .ensures)
 
 pub tell-spec : {M : Type 1} → statement M
-tell-spec = tie.close (tie.spec answer-at-requires returns)
+tell-spec = tie.close (tie.spec (λ c κs. search needs) returns)

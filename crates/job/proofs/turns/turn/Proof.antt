@@ -1,47 +1,18 @@
+-- `job::turns::turn`: refused, or run.
 use borrow.Author.Needs.{needs}
+use mathlib.Core.Path.{sym, _∙_}
+use Rattle.job.proofs.Turning.{turn-passed, turn-refused, turn-ran}
 use Rattle.job.proofs.turns.turn.Statement.{statement}
 use Rattle.job.proofs.turns.turn.Tie as tie
-use Rattle.job.proofs.turns.turn.Reads as reads
-use Rattle.job.proofs.turns.turn.Lts as lts
-use Rattle.job.proofs.turns.check_turn.Reads as check-turn-reads
-use Rattle.job.proofs.turns.run.Reads as run-reads
 
--- src/turns.rt:105:9
-check-turn-requires : tie.Need-check-turn-requires
-check-turn-requires c κs = search needs
-
--- src/turns.rt:107:24
-enum-known-check : tie.Need-enum-known-check
-enum-known-check c = search needs
-
--- src/turns.rt:112:45
-enum-told : tie.Need-enum-told
-enum-told c = search needs
-
--- src/turns.rt:112:24
 run-requires : tie.Need-run-requires
-run-requires c κs = ?
+run-requires c κs = let a = turn-passed _ _ _ (sym (c .before .before .before .check-turn .ensures) ∙ c .before .enum-told .given .1) in (a .0, (a .1, a .2))
 
--- src/turns.rt:102:1
 returns : tie.Need-returns
-returns c = ?
+returns c = turn-refused _ _ _ _ _ _ (c .before .before .before .check-turn .ensures) (c .before .check .given .1)
 
--- src/turns.rt:102:1
-same-length : tie.Need-same-length
-same-length c = search needs
-
--- src/turns.rt:102:1
 returns-2 : tie.Need-returns-2
-returns-2 c = ?
+returns-2 c = turn-ran _ _ _ _ _ _ (c .before .before .before .before .before .before .check-turn .ensures) (c .before .before .before .before .enum-told .given .1) (c .before .before .run .ensures)
 
 pub turn-spec : {M : Type 1} → statement M
-turn-spec =
-    tie.close
-    (tie.spec
-    check-turn-requires
-    enum-known-check
-    enum-told
-    run-requires
-    returns
-    same-length
-    returns-2)
+turn-spec = tie.close (tie.spec (λ c κs. search needs) (λ c. search needs) (λ c. search needs) run-requires returns (λ c. search needs) returns-2)
