@@ -1,8 +1,8 @@
 -- What a search is given: lo and hi are finite numbers of binary64, 0 ≤ lo ≤ hi.
 use mathlib.Core.Path.{_≡_, refl, sym, subst, subst⁻¹, _∙_}
-use mathlib.Core.Bool.{Bool, true, false, cond, not, _&&_, true≢false}
+use mathlib.Core.Bool.{Bool, true, false, cond, not, true≢false}
 use mathlib.Core.Logic.{_⊎_, inl, inr}
-use Prim.Native.Nat.{ℕ, _+_, _*_, _^_, _≤_, _<_}
+use Prim.Native.Nat.{ℕ, _*_, _^_, _≤_, _<_}
 use native.Mathlib.Nat.{le-trans, mul-one, mul-pos}
 use native.Mathlib.Omega.{arith}
 use borrow.Author.Tests.{not-false}
@@ -16,14 +16,14 @@ use lib.Ieee.Scale.{finite}
 use lib.Ieee.Positive.{num}
 use Rattle.real.specs.Reals.{greater, lesser, zero64}
 use Rattle.real.proofs.SignedOrder.{natural, nat-fin, nat-above, in-fin, le-total, lt→le, round-smono, div-smono, zero-over}
+use Rattle.refusal.specs.declared.Refusal.the-variants.{NoDistanceRange}
 use Rattle.setup.specs.declared.GwrBandwidth.{GwrBandwidth}
 use Rattle.setup.specs.declared.GwrBandwidth.the-variants.{Fixed, AdaptiveKnn}
 use Rattle.setup.specs.declared.GwrOptions.{GwrOptions}
 use Rattle.setup.specs.declared.Setup.{Setup}
 use Rattle.setup.specs.Data.{Data}
 use Rattle.setup.specs.Shape.{setupOf, Sized}
-use Rattle.checks.specs.Judge.{NoneOf}
-use Rattle.checks.proofs.Judge.{none-head, none-append}
+use Rattle.checks.proofs.Judge.{here, later, none-among, none-append}
 use Rattle.plan.specs.declared.Plan.{Plan}
 use Rattle.plan.specs.declared.Plan.the-variants.{Settled, Sought}
 use Rattle.plan.specs.declared.Acceptance.the-variants.{Planned}
@@ -148,5 +148,4 @@ sought-ranged d p o out held e =
     let u = setupOf d p o in
     let q = accept-planned d p o out e in
     let t = none-append (inputTests d p out) (optionTests u d) (q .passed) .1 in
-    let r = none-head _ _ _ (none-head _ _ _ t .1) .0 in
-    subst⁻¹ Within (q .is) (plan-within u (q .accepted .shaped .sized) (greatestDistance (d .coords) (u .n)) held r)
+    subst⁻¹ Within (q .is) (plan-within u (q .accepted .shaped .sized) (greatestDistance (d .coords) (u .n)) held (none-among NoDistanceRange t (search (here, later))))

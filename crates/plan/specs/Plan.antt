@@ -3,7 +3,6 @@ use Prim.Native.Nat.{ℕ}
 use mathlib.Core.Bool.{cond}
 use lib.Dec.{leb}
 use lib.Ieee.{Float, le}
-use Rattle.refusal.specs.declared.Refusal.{Refusal}
 use Rattle.setup.specs.declared.GwrBandwidth.{GwrBandwidth}
 use Rattle.setup.specs.declared.GwrBandwidth.the-variants.{Fixed, AdaptiveKnn}
 use Rattle.setup.specs.declared.GwrOptions.{GwrOptions}

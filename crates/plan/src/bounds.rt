@@ -8,7 +8,7 @@ use setup::GwrBandwidth;
 use setup::Setup;
 
 // The greatest distance from pantry i to those after it, and `before`.
-fn greatest_from(coords: &[f64], n: usize, i: usize, before: f64) -> f64
+fn farther_from(coords: &[f64], n: usize, i: usize, before: f64) -> f64
     requires { ⌜ (length (now coords) ≡ 2 * n) × (i < n) × (n ≤ 512) ⌝ }
     ensures { λ r. ⌜ r ≡ fartherFrom (now (coords .entry)) n i before ⌝ }
 {
@@ -32,7 +32,7 @@ pub fn greatest_distance(coords: &[f64], n: usize) -> f64
 {
     let mut most = 0.0;
     for i in 0..n {
-        most = greatest_from(coords, n, i, most);
+        most = farther_from(coords, n, i, most);
     }
     most
 }

@@ -1,10 +1,10 @@
--- `plan::greatest_from` meets its contract: the loop's number is the fold up to j.
+-- `plan::farther_from` meets its contract: the loop's number is the fold up to j.
 use borrow.Author.Needs.{needs}
 use Prim.Native.Nat.{_-_, _+_}
 use Rattle.real.proofs.Fold.{Range, none, more, done}
 use Rattle.plan.specs.Bounds.{fartherPair, fartherFrom}
-use Rattle.plan.proofs.bounds.greatest_from.Statement.{statement}
-use Rattle.plan.proofs.bounds.greatest_from.Tie as tie
+use Rattle.plan.proofs.bounds.farther_from.Statement.{statement}
+use Rattle.plan.proofs.bounds.farther_from.Tie as tie
 
 abbrev Inv-loop : tie.InvT-loop
 Inv-loop coords n i before most₀ j₀ most j = Range (fartherPair coords i) before (i + 1) n j most
@@ -80,8 +80,8 @@ returns : tie.Need-returns Inv-loop μ-loop
 unfolding fartherFrom
 returns c = done (c .before .loop .inv) (search needs)
 
-pub greatest-from-spec : {M : Type 1} → statement M
-greatest-from-spec =
+pub farther-from-spec : {M : Type 1} → statement M
+farther-from-spec =
     tie.close
     (tie.spec
     Inv-loop
