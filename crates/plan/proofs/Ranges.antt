@@ -1,14 +1,13 @@
 -- What a search is given: lo and hi are finite numbers of binary64, 0 ≤ lo ≤ hi.
 use mathlib.Core.Path.{_≡_, refl, sym, subst, subst⁻¹, _∙_}
-use mathlib.Core.Bool.{Bool, true, false, cond, not, true≢false}
-use mathlib.Core.List.{List}
+use mathlib.Core.Bool.{Bool, true, false, cond, not, _&&_, true≢false}
 use mathlib.Core.Logic.{_⊎_, inl, inr}
-use Prim.Native.Nat.{ℕ, _*_, _/_, _^_, _≤_, _<_}
+use Prim.Native.Nat.{ℕ, _+_, _*_, _^_, _≤_, _<_}
 use native.Mathlib.Nat.{le-trans, mul-one, mul-pos}
 use native.Mathlib.Omega.{arith}
+use borrow.Author.Tests.{not-false}
 use lib.Dec.{T, lit<, lit≤, leb}
 use lib.IntN.{pos}
-use lib.ListN.{length}
 use lib.Ieee.{Float, nan, inf, fin, binary64, up, mul, div, lt, le, fits, isNan, ofBits, ofInt}
 use lib.Ieee.Back.{round-whole}
 use lib.Ieee.Exact.{HasValue}
@@ -16,27 +15,23 @@ use lib.Ieee.Fits.{cond-fits, div-fits, mul-fits, ofInt-fits, down-pos, and-l, a
 use lib.Ieee.Scale.{finite}
 use lib.Ieee.Positive.{num}
 use Rattle.real.specs.Reals.{greater, lesser, zero64}
-use Rattle.real.proofs.SignedOrder.{natural, nat-fin, nat-above, in-fin, le-tr, le-total, lt→le, round-smono, div-smono, zero-over}
+use Rattle.real.proofs.SignedOrder.{natural, nat-fin, nat-above, in-fin, le-total, lt→le, round-smono, div-smono, zero-over}
 use Rattle.setup.specs.declared.GwrBandwidth.{GwrBandwidth}
 use Rattle.setup.specs.declared.GwrBandwidth.the-variants.{Fixed, AdaptiveKnn}
-use Rattle.plan.specs.declared.Plan.{Plan}
-use Rattle.plan.specs.declared.Plan.the-variants.{Settled, Sought, Refused}
 use Rattle.setup.specs.declared.GwrOptions.{GwrOptions}
-use Rattle.plan.specs.Plan.{realOf, greatestDistance, leastDistance, usableDistance, leastCount, greatestCount, distancePlan, rangePlan, countPlan, givenPlan, searchPlan, planOf, acceptOf}
-use Rattle.plan.proofs.Acceptance.{unrefused, sought-accepted}
-
--- ---- numbers from 0 up
-
-abbrev pub Above : Float → Type 0
-Above x = T (le zero64 x)
-
-pub greater-above : (a b : Float) → Above a → Above (greater a b)
-unfolding greater
-greater-above a b h = go (lt a b) refl
-  where
-    go : (t : Bool) → lt a b ≡ t → Above (cond t b a)
-    go true e = le-tr zero64 a b h (lt→le a b (subst⁻¹ T e tt))
-    go false e = h
+use Rattle.setup.specs.declared.Setup.{Setup}
+use Rattle.setup.specs.Data.{Data}
+use Rattle.setup.specs.Shape.{setupOf, Sized}
+use Rattle.checks.specs.Judge.{NoneOf}
+use Rattle.checks.proofs.Judge.{none-head, none-append}
+use Rattle.plan.specs.declared.Plan.{Plan}
+use Rattle.plan.specs.declared.Plan.the-variants.{Settled, Sought}
+use Rattle.plan.specs.declared.Acceptance.the-variants.{Planned}
+use Rattle.plan.specs.Bounds.{realOf, greatestDistance, leastDistance, usableDistance, leastCount, greatestCount}
+use Rattle.plan.specs.Checks.{inputTests, seeksDistance, nothingBetween, optionTestsAt, optionTests}
+use Rattle.plan.specs.Plan.{distancePlan, countPlan, searchPlan, planAt, acceptOf}
+use Rattle.plan.proofs.Above.{Above, greater-above}
+use Rattle.plan.proofs.Accepted.{accept-planned}
 
 above-number : (x : Float) → Above x → T (not (isNan x))
 unfolding le isNan ofBits
@@ -125,34 +120,33 @@ count-ranged m n h few =
 abbrev Within : Plan → Type 0
 Within (Settled b) = Unit
 Within (Sought lo hi) = Ranged lo hi
-Within (Refused r) = Unit
 
 told : (b : Bool) (q s : Plan) → (b ≡ true → Within q) → (b ≡ false → Within s) → Within (cond b q s)
 told true q s f g = f refl
 told false q s f g = g refl
 
-module _ (coords : List Float) (n p : ℕ) (held : T (fits binary64 (greatestDistance coords n))) (some : 1 ≤ n) (few : n ≤ 512) (narrow : p ≤ 7) where
-  search-within : (w : GwrBandwidth) → Within (searchPlan coords n p w)
-  unfolding searchPlan rangePlan distancePlan countPlan
-  search-within (Fixed b) =
-      let hi = greatestDistance coords n in
-      told (usableDistance hi) _ _ (λ u. told (le hi (leastDistance hi n)) _ _ (λ e. tt) (λ e. distance-ranged hi n held some few u e)) (λ u. tt)
-  search-within (AdaptiveKnn k) =
-      told (leb (greatestCount n p) (leastCount p)) _ _ (λ e. tt) (λ e. count-ranged (leastCount p) (greatestCount n p) (omega arith) (omega arith))
+module _ (u : Setup) (s : Sized u) (hi : Float) (held : T (fits binary64 hi)) where
+  abbrev Untold : Bool → GwrBandwidth → Type 0
+  Untold t w = nothingBetween t w hi ≡ false
 
-  given-within : (w : GwrBandwidth) → Within (givenPlan w n)
-  unfolding givenPlan
-  given-within (Fixed b) = told (usableDistance b) _ _ (λ u. tt) (λ u. tt)
-  given-within (AdaptiveKnn k) = tt
+  search-within : (w : GwrBandwidth) → Untold true w → Within (searchPlan w hi (u .n) (u .p))
+  unfolding searchPlan distancePlan countPlan nothingBetween seeksDistance
+  search-within (Fixed b) e =
+      told (le hi (leastDistance hi (u .n))) _ _ (λ _. tt) (λ k. distance-ranged hi (u .n) held (omega (arith, s .enough)) (s .few) (not-false _ e) k)
+  search-within (AdaptiveKnn k) e =
+      told (leb (greatestCount (u .n) (u .p)) (leastCount (u .p))) _ _ (λ _. tt) (λ _. count-ranged (leastCount (u .p)) (greatestCount (u .n) (u .p)) (omega arith) (omega (arith, s .few, s .narrow)))
 
-  plan-within : (options : GwrOptions) → Within (planOf coords n p options)
-  unfolding planOf
-  plan-within options = told (options .«optimize_bandwidth») _ _ (λ u. search-within (options .bandwidth)) (λ u. given-within (options .bandwidth))
+  plan-within : Untold (u .options .«optimize_bandwidth») (u .options .bandwidth) → Within (planAt u hi)
+  unfolding planAt
+  plan-within e =
+      told (u .options .«optimize_bandwidth») _ _ (λ t. search-within (u .options .bandwidth) (subst (λ (z : Bool). Untold z (u .options .bandwidth)) t e)) (λ _. tt)
 
 -- and so of every accepted job that searches, whose greatest pair distance is a number of binary64
-pub sought-ranged : (coords x y : List Float) (p : ℕ) (options : GwrOptions) (out : ℕ) (lo hi : Float) → T (fits binary64 (greatestDistance coords (length coords / 2)))
-    → acceptOf coords x y p options out ≡ Sought lo hi → Ranged lo hi
-sought-ranged coords x y p options out lo hi held h =
-    let s = sought-accepted coords x y p options out lo hi h .shaped in
-    subst Within (unrefused coords x y p options out (Sought lo hi) (λ r e. let z : _≡_ {A = ℕ} 0 1 = cc in omega arith) h .1)
-    (plan-within coords (length coords / 2) p held (s .some) (s .few) (s .narrow) options)
+pub sought-ranged : (d : Data) (p : ℕ) (o : GwrOptions) (out : ℕ) {lo hi : Float} → T (fits binary64 (greatestDistance (d .coords) (setupOf d p o .n))) → acceptOf d p o out ≡ Planned (Sought lo hi) → Ranged lo hi
+unfolding optionTestsAt
+sought-ranged d p o out held e =
+    let u = setupOf d p o in
+    let q = accept-planned d p o out e in
+    let t = none-append (inputTests d p out) (optionTests u d) (q .passed) .1 in
+    let r = none-head _ _ _ (none-head _ _ _ t .1) .0 in
+    subst⁻¹ Within (q .is) (plan-within u (q .accepted .shaped .sized) (greatestDistance (d .coords) (u .n)) held r)

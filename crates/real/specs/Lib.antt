@@ -1,3 +1,4 @@
 pub mod Fold
 pub mod Reals
 pub mod Fractions
+pub mod Finite

@@ -1,0 +1,2 @@
+pub mod Judge
+pub mod Means
