@@ -1,4 +1,5 @@
-pub mod Bounds
+pub mod Fits
 pub mod Bytes
 pub mod Answers
+pub mod Judged
 pub mod Counts
