@@ -56,6 +56,11 @@ module _ {b : Bool} (r : Refusal) (l : List (Bool × Refusal)) where
   unfolding judge
   judge-rest e = rw e
 
+-- where no test is left, the input passes
+pub judge-end : NoneOf []
+unfolding judge
+judge-end = refl
+
 pub none-head : (b : Bool) (r : Refusal) (l : List (Bool × Refusal)) → NoneOf ((b, r) ∷ l) → (b ≡ false) × NoneOf l
 unfolding judge
 none-head true r l h = (cc, cc)

@@ -33,25 +33,35 @@ use Rattle.plan.specs.Plan.{resolveInitialBandwidth, distancePlan, count
 
 -- ---- lengths, values and room
 
--- lengths that refusals 1 to 7 let pass
-pub shape-shaped : (d : Data) (p : ℕ) (o : GwrOptions) → NoneOf (shapeTests (length (d .coords)) (length (d .predictors)) (length (d .responses)) p) → Shaped (setupOf d p o) d
-unfolding shapeTests
-shape-shaped d p o h =
-    let t1 = none-head _ _ _ h in
-    let t2 = none-head _ _ _ (t1 .1) in
-    let t3 = none-head _ _ _ (t2 .1) in
-    let t4 = none-head _ _ _ (t3 .1) in
-    let t5 = none-head _ _ _ (t4 .1) in
-    let t6 = none-head _ _ _ (t5 .1) in
-    let t7 = none-head _ _ _ (t6 .1) in
-    let none : length (d .coords) ≡ 0 → ⊥ = eqb-false _ _ (t1 .0) in
-    let odd : length (d .coords) % 2 ≡ 1 → ⊥ = eqb-false _ _ (t2 .0) in
-    record {
-      sized = record { few = ltb-false _ _ (t3 .0); narrow = ltb-false _ _ (t4 .0); enough = ltb-false _ _ (t7 .0) };
-      places = omega arith;
-      rows = eqb-true _ _ (not-false _ (t5 .0));
-      answers = eqb-true _ _ (not-false _ (t6 .0));
-    }
+-- sizes and lengths that refusals 1 to 7 let pass
+module _ (coords x y p : ℕ) where
+  pub record Counts : Type 0 where
+    pub even : coords ≡ 2 * (coords / 2)
+    pub few : coords / 2 ≤ 512
+    pub narrow : p ≤ 7
+    pub rows : x ≡ coords / 2 * p
+    pub answers : y ≡ coords / 2
+    pub enough : p + 1 ≤ coords / 2
+
+  pub shape-counts : NoneOf (shapeTests coords x y p) → Counts
+  unfolding shapeTests
+  shape-counts h =
+      let t1 = none-head _ _ _ h in
+      let t2 = none-head _ _ _ (t1 .1) in
+      let t3 = none-head _ _ _ (t2 .1) in
+      let t4 = none-head _ _ _ (t3 .1) in
+      let t5 = none-head _ _ _ (t4 .1) in
+      let t6 = none-head _ _ _ (t5 .1) in
+      let t7 = none-head _ _ _ (t6 .1) in
+      let odd : coords % 2 ≡ 1 → ⊥ = eqb-false _ _ (t2 .0) in
+      record {
+        even = omega arith;
+        few = ltb-false _ _ (t3 .0);
+        narrow = ltb-false _ _ (t4 .0);
+        rows = eqb-true _ _ (not-false _ (t5 .0));
+        answers = eqb-true _ _ (not-false _ (t6 .0));
+        enough = ltb-false _ _ (t7 .0);
+      }
 
 -- what 1 to 10 and 13 leave of an input
 pub record Accepted (d : Data) (p : ℕ) (o : GwrOptions) (out : ℕ) : Type 0 where
@@ -82,8 +92,9 @@ module _ (d : Data) (p out : ℕ) where
       let v2 = none-head _ _ _ (v1 .1) in
       let v3 = none-head _ _ _ (v2 .1) in
       let r = none-head _ _ _ (b .1) in
+      let k = shape-counts _ _ _ _ (a .0) in
       record {
-        shaped = shape-shaped d p o (a .0);
+        shaped = record { sized = record { few = k .few; narrow = k .narrow; enough = k .enough }; places = k .even; rows = k .rows; answers = k .answers };
         responses-finite = not-false _ (v1 .0);
         places-finite = not-false _ (v2 .0);
         rows-finite = not-false _ (v3 .0);
@@ -93,14 +104,23 @@ module _ (d : Data) (p out : ℕ) where
 -- ---- options
 
 -- where no distance is sought, the greatest pair distance is not looked at
-pub options-blind : (u : Setup) (h k : Float) → seeksDistance (u .options .«optimize_bandwidth») (u .options .bandwidth) ≡ false → planOptionsAt u h ≡ planOptionsAt u k
-unfolding planOptionsAt optionTestsAt nothingBetween planAt searchPlan seeksDistance
-options-blind u h k e = rw e (ap (λ (q : Plan). ruled _ Refused (Planned q)) (go (u .options .«optimize_bandwidth») (u .options .bandwidth) e))
-  where
-    go : (t : Bool) (w : GwrBandwidth) → seeksDistance t w ≡ false → cond t (searchPlan w h (u .n) (u .p)) (Settled (resolveInitialBandwidth w (u .n))) ≡ cond t (searchPlan w k (u .n) (u .p)) (Settled (resolveInitialBandwidth w (u .n)))
-    go true (Fixed b) e = cc
-    go true (AdaptiveKnn c) e = refl
-    go false w e = refl
+module _ (u : Setup) (h k : Float) (e : seeksDistance (u .options .«optimize_bandwidth») (u .options .bandwidth) ≡ false) where
+  tests-blind : optionTestsAt (u .options) h ≡ optionTestsAt (u .options) k
+  unfolding optionTestsAt nothingBetween
+  tests-blind = rw e
+
+  plan-blind : planAt u h ≡ planAt u k
+  unfolding planAt searchPlan seeksDistance
+  plan-blind = go (u .options .«optimize_bandwidth») (u .options .bandwidth) e
+    where
+      go : (t : Bool) (w : GwrBandwidth) → seeksDistance t w ≡ false → cond t (searchPlan w h (u .n) (u .p)) (Settled (resolveInitialBandwidth w (u .n))) ≡ cond t (searchPlan w k (u .n) (u .p)) (Settled (resolveInitialBandwidth w (u .n)))
+      go true (Fixed b) e = cc
+      go true (AdaptiveKnn c) e = refl
+      go false w e = refl
+
+  pub options-blind : planOptionsAt u h ≡ planOptionsAt u k
+  unfolding planOptionsAt
+  options-blind = rw (tests-blind, plan-blind)
 
 -- ---- bandwidths that can be used
 

@@ -1,5 +1,5 @@
 -- How far a sweep comes, and that rows leave it alone: laws of the definitions, by cases of the course and of the outcome.
-use mathlib.Core.Path.{_≡_, refl, sym, ap, subst, _∙_}
+use mathlib.Core.Path.{_≡_, refl, sym, ap, subst, subst⁻¹, _∙_}
 use mathlib.Core.Bool.{Bool, true, false}
 use mathlib.Core.List.{List, []}
 use Prim.Native.Nat.{ℕ, zero, suc, _+_, _*_, _≤_, _<_}
@@ -23,7 +23,7 @@ use Rattle.sweep.specs.declared.Course.{Course}
 use Rattle.sweep.specs.declared.Course.the-variants.{Going, Stopped}
 use Rattle.sweep.specs.declared.Sweep.{Sweep}
 use Rattle.sweep.specs.declared.Swept.{Swept}
-use Rattle.sweep.specs.Sweep.{newSweep, addValues, nextLocation, afterSolve, rowFound, rowAfter, visitAt, visit, fitAllLocations, sweepOf}
+use Rattle.sweep.specs.Sweep.{newSweep, addValues, nextLocation, afterSolve, rowFound, rowAfter, visitAt, visit, fitAllLocations, sweepOf, solvesAfter, solvesOf}
 
 pub pair : {A B : Type 0} {a c : A} {x y : B} → a ≡ c → x ≡ y → _≡_ {A = A × B} (a, x) (c, y)
 pair p q = cc
@@ -51,6 +51,11 @@ row-left rows u i v out e = sym (ap (λ (b : Bool). rowAfter b u i v out) e)
 after-next : (s : Sweep) (o : Outcome) → afterSolve s o .sweep .location ≤ s .location + 1
 after-next s (outcome.Found v) = omega arith
 after-next s (outcome.Refused r) = omega arith
+
+-- and counts, whether it was solved or not
+after-solves : (s : Sweep) (o : Outcome) → solvesOf (afterSolve s o) ≡ s .location + 1
+after-solves s (outcome.Found v) = refl
+after-solves s (outcome.Refused r) = refl
 
 module _ (rows : Bool) (u : Setup) (d : Data) (b : GwrBandwidth) where
   visit-next : (c : Course) (i : ℕ) (s : Swept × List Float) → visitAt c rows u d b i s .0 .sweep .location ≤ s .0 .sweep .location + 1
@@ -88,6 +93,34 @@ module _ (rows : Bool) (u : Setup) (d : Data) (b : GwrBandwidth) where
   pub swept-few : (i : ℕ) (out : List Float) → range (visit rows u d b) 0 i (record { course = Going; sweep = newSweep }, out) .0 .sweep .location ≤ i
   unfolding range
   swept-few i out = rw sub-zero (let h = swept-turns i (record { course = Going; sweep = newSweep }, out) in omega (arith, h))
+
+  -- so a whole one ends at location n at most
+  pub sweep-few : (out : List Float) → fitAllLocations rows u d b out .0 .sweep .location ≤ u .n
+  unfolding fitAllLocations
+  sweep-few out = swept-few (u .n) out
+
+  solves-next : (c : Course) (i : ℕ) (s : Swept × List Float) → s .0 .course ≡ c → solvesOf (visitAt c rows u d b i s .0) ≤ solvesOf (s .0) + 1
+  solves-next Going i s e =
+      let h = after-solves (s .0 .sweep) (solveLocation u d b i .outcome) in
+      omega (arith, h, ap (λ (k : Course). solvesAfter k (s .0 .sweep .location)) e)
+  solves-next (Stopped r) i s e = omega arith
+
+  solves-turns : (i : ℕ) (s : Swept × List Float) → solvesOf (turns (visit rows u d b) 0 i s .0) ≤ solvesOf (s .0) + i
+  unfolding turns visit
+  solves-turns zero s = omega arith
+  solves-turns (suc k) s =
+      let t = turns (visit rows u d b) 0 k s in
+      let h = solves-next (t .0 .course) (0 + k) t refl in
+      omega (arith, h, solves-turns k s)
+
+  -- and it has made n solves at most
+  pub sweep-solves : (out : List Float) → solvesOf (fitAllLocations rows u d b out .0) ≤ u .n
+  unfolding fitAllLocations range
+  sweep-solves out = rw sub-zero (let h = solves-turns (u .n) (record { course = Going; sweep = newSweep }, out) in omega (arith, h))
+
+  -- the same of a sweep that was made
+  pub made-few : (s : Swept) (out after : List Float) → _≡_ {A = Swept × List Float} (s, after) (fitAllLocations rows u d b out) → (s .sweep .location ≤ u .n) × (solvesOf s ≤ u .n)
+  made-few s out after e = subst⁻¹ (λ (q : Swept × List Float). (q .0 .sweep .location ≤ u .n) × (solvesOf (q .0) ≤ u .n)) e (sweep-few out, sweep-solves out)
 
 -- ---- with rows or without, a sweep is the same
 module _ (u : Setup) (d : Data) (b : GwrBandwidth) where

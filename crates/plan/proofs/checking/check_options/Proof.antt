@@ -1,6 +1,6 @@
 -- `plan::check_options` meets its contract: its tests are the list's, in order.
 use borrow.Author.Needs.{needs}
-use Rattle.checks.specs.Judge.{judge}
+use Rattle.checks.proofs.Tests.{tests}
 use Rattle.plan.specs.Checks.{optionTestsAt}
 use Rattle.plan.proofs.checking.check_options.Statement.{statement}
 use Rattle.plan.proofs.checking.check_options.Tie as tie
@@ -9,19 +9,19 @@ unusable-given-requires : tie.Need-unusable-given-requires
 unusable-given-requires c κs = search needs
 
 returns : tie.Need-returns
-unfolding judge optionTestsAt
-returns c = rw (← c .before .unusable-given .ensures, c .if1 .taken)
+unfolding optionTestsAt
+returns c = search tests
 
 nothing-between-requires : tie.Need-nothing-between-requires
 nothing-between-requires c κs = search needs
 
 returns-2 : tie.Need-returns-2
-unfolding judge optionTestsAt
-returns-2 c = rw (← c .before .before .before .unusable-given .ensures, c .before .before .if1 .left, ← c .before .nothing-between .ensures, c .if2 .taken)
+unfolding optionTestsAt
+returns-2 c = search tests
 
 returns-3 : tie.Need-returns-3
-unfolding judge optionTestsAt
-returns-3 c = rw (← c .before .before .before .unusable-given .ensures, c .before .before .if1 .left, ← c .before .nothing-between .ensures, c .if2 .left)
+unfolding optionTestsAt
+returns-3 c = search tests
 
 pub check-options-spec : {M : Type 1} → statement M
 check-options-spec =

@@ -1,50 +1,49 @@
 -- `plan::check_shape` meets its contract: its tests are the list's, in order.
 use borrow.Author.Needs.{needs}
-use borrow.Author.Tests.{eq-eqb, ne-eqb, lt-ltb, le-ltb}
 use native.Mathlib.Nat.{mul-le-mul}
 use native.Mathlib.Omega.{arith}
-use Rattle.checks.specs.Judge.{judge}
+use Rattle.checks.proofs.Tests.{tests}
 use Rattle.plan.specs.Checks.{shapeTests}
 use Rattle.plan.proofs.checking.check_shape.Statement.{statement}
 use Rattle.plan.proofs.checking.check_shape.Tie as tie
 
 returns : tie.Need-returns
-unfolding judge shapeTests
-returns c = rw (eq-eqb _ _ (c .if1 .taken))
+unfolding shapeTests
+returns c = search tests
 
 returns-2 : tie.Need-returns-2
-unfolding judge shapeTests
-returns-2 c = rw (ne-eqb _ _ (c .before .if1 .left), eq-eqb _ _ (c .if2 .taken))
+unfolding shapeTests
+returns-2 c = search tests
 
 returns-3 : tie.Need-returns-3
-unfolding judge shapeTests
-returns-3 c = rw (ne-eqb _ _ (c .before .before .if1 .left), ne-eqb _ _ (c .before .if2 .left), lt-ltb _ _ (c .if3 .taken))
+unfolding shapeTests
+returns-3 c = search tests
 
 returns-4 : tie.Need-returns-4
-unfolding judge shapeTests
-returns-4 c = rw (ne-eqb _ _ (c .before .before .before .if1 .left), ne-eqb _ _ (c .before .before .if2 .left), le-ltb _ _ (c .before .if3 .left), lt-ltb 7 (c .before .before .before .before .args .p) (omega arith))
+unfolding shapeTests
+returns-4 c = search tests
 
 mul-if5 : tie.Need-mul-if5
 mul-if5 c = let few = c .before .if3 .left in let narrow = c .if4 .left in omega (arith, mul-le-mul few narrow)
 
 returns-5 : tie.Need-returns-5
-unfolding judge shapeTests
-returns-5 c = rw (ne-eqb _ _ (c .before .before .before .before .if1 .left), ne-eqb _ _ (c .before .before .before .if2 .left), le-ltb _ _ (c .before .before .if3 .left), le-ltb 7 (c .before .before .before .before .before .args .p) (omega arith), ne-eqb _ _ (c .if5 .taken))
+unfolding shapeTests
+returns-5 c = search tests
 
 returns-6 : tie.Need-returns-6
-unfolding judge shapeTests
-returns-6 c = rw (ne-eqb _ _ (c .before .before .before .before .before .if1 .left), ne-eqb _ _ (c .before .before .before .before .if2 .left), le-ltb _ _ (c .before .before .before .if3 .left), le-ltb 7 (c .before .before .before .before .before .before .args .p) (omega arith), eq-eqb _ _ (c .before .if5 .left), ne-eqb _ _ (c .if6 .taken))
+unfolding shapeTests
+returns-6 c = search tests
 
 add-if7 : tie.Need-add-if7
 add-if7 c = search needs
 
 returns-7 : tie.Need-returns-7
-unfolding judge shapeTests
-returns-7 c = rw (ne-eqb _ _ (c .before .before .before .before .before .before .if1 .left), ne-eqb _ _ (c .before .before .before .before .before .if2 .left), le-ltb _ _ (c .before .before .before .before .if3 .left), le-ltb 7 (c .before .before .before .before .before .before .before .args .p) (omega arith), eq-eqb _ _ (c .before .before .if5 .left), eq-eqb _ _ (c .before .if6 .left), lt-ltb _ _ (c .if7 .taken))
+unfolding shapeTests
+returns-7 c = search tests
 
 returns-8 : tie.Need-returns-8
-unfolding judge shapeTests
-returns-8 c = rw (ne-eqb _ _ (c .before .before .before .before .before .before .if1 .left), ne-eqb _ _ (c .before .before .before .before .before .if2 .left), le-ltb _ _ (c .before .before .before .before .if3 .left), le-ltb 7 (c .before .before .before .before .before .before .before .args .p) (omega arith), eq-eqb _ _ (c .before .before .if5 .left), eq-eqb _ _ (c .before .if6 .left), le-ltb _ _ (c .if7 .left))
+unfolding shapeTests
+returns-8 c = search tests
 
 pub check-shape-spec : {M : Type 1} → statement M
 check-shape-spec =

@@ -7,7 +7,7 @@ use Rattle.plan.proofs.checking.lengths_fit.Statement.{statement}
 use Rattle.plan.proofs.checking.lengths_fit.Tie as tie
 
 mul-both : tie.Need-mul-both
-mul-both c = omega (arith, mul-le-mul (c .pre .few) (c .pre .narrow))
+mul-both c = let s = c .before .before .before .before .pre in omega (arith, mul-le-mul (s .few) (s .narrow))
 
 both-requires : tie.Need-both-requires
 both-requires c κs = search needs
@@ -20,7 +20,7 @@ both-requires-2 c κs = search needs
 
 returns : tie.Need-returns
 unfolding lengthsFit
-returns c = rw (c .both2 .ensures, c .before .both .ensures)
+returns c = rw (c .both2 .ensures, c .before .before .both .ensures)
 
 pub lengths-fit-spec : {M : Type 1} → statement M
 lengths-fit-spec = tie.close (tie.spec mul-both both-requires mul-both-2 both-requires-2 returns)

@@ -1,6 +1,5 @@
 -- `plan::seeks_distance` meets its contract, case by case.
 use borrow.Author.Needs.{needs}
-use mathlib.Core.Path.{sym}
 use Rattle.plan.specs.Checks.{seeksDistance}
 use Rattle.plan.proofs.checking.seeks_distance.Statement.{statement}
 use Rattle.plan.proofs.checking.seeks_distance.Tie as tie
@@ -13,11 +12,11 @@ enum-told-2 c = search needs
 
 returns : tie.Need-returns
 unfolding seeksDistance
-returns c = rw (c .before .before .if1 .taken, c .before .enum-told .given .1)
+returns c = rw (c .before .before .if1 .taken, c .enum-told .given .1)
 
 returns-2 : tie.Need-returns-2
 unfolding seeksDistance
-returns-2 c = rw (c .before .before .if1 .taken, c .before .enum-told2 .given .1)
+returns-2 c = rw (c .before .before .if1 .taken, c .enum-told2 .given .1)
 
 returns-3 : tie.Need-returns-3
 unfolding seeksDistance

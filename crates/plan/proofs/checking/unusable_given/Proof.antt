@@ -19,11 +19,11 @@ enum-told c = search needs
 
 returns-2 : tie.Need-returns-2
 unfolding unusableGiven
-returns-2 c = rw (c .before .before .if1 .left, c .before .bandwidth .given .1, c .usable-distance .ensures)
+returns-2 c = rw (c .before .before .before .before .if1 .left, c .before .before .bandwidth .given .1, c .usable-distance .ensures)
 
 returns-3 : tie.Need-returns-3
 unfolding unusableGiven
-returns-3 c = rw (c .before .if1 .left, c .enum-told .given .1)
+returns-3 c = rw (c .before .before .if1 .left, c .enum-told .given .1)
 
 pub unusable-given-spec : {M : Type 1} → statement M
 unusable-given-spec =
