@@ -1,1 +1,2 @@
 pub mod Sweeps
+pub mod Reached
