@@ -2,10 +2,10 @@
 use mathlib.Core.Path.{_≡_, sym, ap, _∙_}
 use mathlib.Core.Bool.{true}
 use mathlib.Core.List.{List}
-use Prim.Native.Nat.{ℕ, _+_}
+use Prim.Native.Nat.{ℕ, _+_, _≤_}
+use native.Mathlib.Omega.{arith}
 use lib.ListN.{length}
 use lib.Ieee.{Float}
-use Rattle.refusal.specs.declared.Refusal.{Refusal}
 use Rattle.setup.specs.declared.GwrBandwidth.{GwrBandwidth}
 use Rattle.setup.specs.declared.GwrOptions.{GwrOptions}
 use Rattle.setup.specs.declared.Setup.{Setup}
@@ -20,7 +20,7 @@ use Rattle.sweep.specs.declared.Finish.{Finish}
 use Rattle.sweep.specs.declared.Swept.{Swept}
 use Rattle.sweep.specs.Sweep.{fitAllLocations, solvesOf, endingOf}
 use Rattle.sweep.specs.Finish.{finishOf}
-use Rattle.sweep.proofs.Sweeps.{pair}
+use Rattle.sweep.proofs.Sweeps.{made-few}
 use Rattle.search.specs.declared.Optimum.{Optimum}
 use Rattle.search.specs.Search.{optimizeBandwidth}
 use Rattle.gwr.specs.declared.FitAnswer.the-variants.{Done}
@@ -38,6 +38,10 @@ module _ (u : Setup) (d : Data) where
       let answer : r ≡ finishOf (endingOf u s) b (before + solvesOf s) = hr ∙ ap (λ (x : Criterion). finishOf x b (before + k)) he ∙ ap (λ (n : ℕ). finishOf (endingOf u s) b (before + n)) hk in
       ap (λ (x : Finish). (fit x (s .sweep .location), after)) answer
       ∙ ap (λ (z : Swept × List Float). (fitFrom u b before (z .0), z .1)) h
+
+  -- its sweep makes 512 solves at most
+  pub solves-made : (b : GwrBandwidth) (out after : List Float) (s : Swept) → u .n ≤ 512 → _≡_ {A = Swept × List Float} (s, after) (fitAllLocations true u d b out) → (k : ℕ) → k ≡ solvesOf s → k ≤ 512
+  solves-made b out after s few h k hk = let m = made-few true u d b s out after h in omega (arith, m .1, few, hk)
 
   -- a job whose bandwidth was sought
   pub sought-is : (lo hi : Float) (m : Optimum) (out : List Float) (r : Fit × List Float) → m ≡ optimizeBandwidth u d lo hi → r ≡ foundOf u d m out → r ≡ soughtOf u d lo hi out

@@ -9,19 +9,23 @@ use lib.Ieee.{Float}
 use Rattle.real.specs.Fold.{turns, range}
 use Rattle.setup.specs.declared.GwrBandwidth.{GwrBandwidth}
 use Rattle.setup.specs.declared.Setup.{Setup}
+use Rattle.setup.specs.Bandwidth.{Usable}
 use Rattle.setup.specs.Data.{Data}
+use Rattle.setup.specs.Shape.{Sized}
 use Rattle.criterion.specs.declared.Criterion.{Criterion}
 use Rattle.criterion.specs.Aicc.{scoreOf}
 use Rattle.golden.specs.declared.Bracket.{Bracket}
 use Rattle.golden.specs.Golden.{startOf, aimOf}
 use Rattle.plan.specs.Bounds.{bandwidthAt}
+use Rattle.plan.proofs.Accepted.{bandwidth-usable}
 use Rattle.sweep.specs.declared.Swept.{Swept}
 use Rattle.sweep.specs.Sweep.{fitAllLocations, solvesOf, endingOf}
 use Rattle.sweep.proofs.Sweeps.{sweep-solves}
 use Rattle.search.specs.declared.Trial.{Trial}
 use Rattle.search.specs.declared.Search.{Search}
+use Rattle.search.specs.declared.Optimum.{Optimum}
 use Rattle.search.specs.Trial.{trialFrom, evaluateAicc, trialOf}
-use Rattle.search.specs.Search.{roundWith, roundOf, openedOf, goldenOf, optimizeBandwidth}
+use Rattle.search.specs.Search.{roundOf, openedOf, goldenOf, optimizeBandwidth}
 
 abbrev trial : Float → ℕ → Trial
 trial v n = record { score = v; solves = n }
@@ -71,6 +75,8 @@ module _ (u : Setup) (d : Data) (few : u .n ≤ 512) where
   unfolding goldenOf
   golden-few lo hi = rounds-few 100 (startOf lo hi)
 
-  pub optimum-few : (lo hi : Float) → optimizeBandwidth u d lo hi .solves ≤ 512 * 102
-  unfolding optimizeBandwidth
-  optimum-few lo hi = golden-few lo hi
+-- what a search found can be used
+pub optimum-made : (u : Setup) (d : Data) → Sized u → (lo hi : Float) (m : Optimum) → m ≡ optimizeBandwidth u d lo hi → Usable (m .bandwidth) × (m .solves ≤ 512 * 102)
+unfolding optimizeBandwidth
+optimum-made u d z lo hi m e =
+    subst⁻¹ (λ (o : Optimum). Usable (o .bandwidth) × (o .solves ≤ 512 * 102)) e (bandwidth-usable u z (goldenOf u d lo hi .bracket .best), golden-few u d (z .few) lo hi)
