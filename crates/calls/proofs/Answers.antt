@@ -27,7 +27,7 @@ use Rattle.calls.specs.declared.Choice.{Choice}
 use Rattle.calls.specs.declared.KernelChoice.{KernelChoice}
 use Rattle.calls.specs.Options.{kernelOf, optionsWith, optionsOf}
 use Rattle.calls.specs.Calls.{AfterCall, refusedCall, placedRows, answerBytes, fittedBytes, fitParts, roomOf, summaryBytes, placedWeight, Writable, Roomy, Offered}
-use Rattle.calls.proofs.Fits.{Sound, Fits, fits}
+use Rattle.gwr.proofs.Bounds.{Sound, Fits, fits}
 
 pub triple : {n m : ℕ} {a b c d : List ℕ} → n ≡ m → a ≡ b → c ≡ d → _≡_ {A = AfterCall} (n, (a, c)) (m, (b, d))
 triple p q r = cc

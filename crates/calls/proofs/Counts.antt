@@ -21,7 +21,7 @@ use Rattle.gwr.specs.declared.FitAnswer.{FitAnswer}
 use Rattle.gwr.specs.declared.FitAnswer.the-variants.{Done, Rejected}
 use Rattle.calls.specs.Options.{optionsOf, named}
 use Rattle.calls.specs.Calls.{AfterCall, refusedCall, summaryBytes, placedRows, answerBytes, fittedBytes, numbersOf, numbersFit, callTests, fitBytes}
-use Rattle.calls.proofs.Fits.{Sound, fits}
+use Rattle.gwr.proofs.Bounds.{Sound, fits}
 
 -- the solve count that a summary's bytes hold
 pub summary-solves : (s : List ℕ) (v : Summary) → v .solves < 2 ^ 64 → loadOf (placed s 0 (summaryBytes v)) 16 ≡ v .solves

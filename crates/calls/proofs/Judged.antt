@@ -34,7 +34,7 @@ use Rattle.calls.specs.declared.KernelChoice.{KernelChoice}
 use Rattle.calls.specs.declared.KernelChoice.the-variants as kernel
 use Rattle.calls.specs.Options.{kernelOf, isUnknownKernel, namedKernel, optionsOf, isUnknown, named}
 use Rattle.calls.specs.Calls.{partTests, byteTests, numbersOf, lentTooShort, numberTests, callTests, AfterCall, refusedCall, fittedBytes, numbersFit, fitBytes, distanceTests, weightTests, refusedWeight, givenWeight, weightBytes, roomOf, fitParts, ByteLengths, placedWeight, weighedBytes}
-use Rattle.calls.proofs.Fits.{fit-refused}
+use Rattle.gwr.proofs.Bounds.{fit-decides}
 
 -- ---- 1 to 6 of bytes
 
@@ -158,7 +158,7 @@ module _ (coords x y : List ℕ) (p : ℕ) (out summary : List ℕ) where
 
       go : (k : Check) → judge (rest o) ≡ k → fittedBytes p (gwrFit (numbersOf coords x y p) p o (replicate room zero64)) out summary ≡ ruled (judge (rest o)) refuse (given o)
       go (check.Refused r) e =
-          ap (λ (f : Fit × List Float). fittedBytes p f out summary) (fit-refused (numbersOf coords x y p) p o (replicate room zero64) (fits ∙ e)) ∙ sym (ruled-refused refuse (given o) e)
+          ap (λ (f : Fit × List Float). fittedBytes p f out summary) (fit-decides (numbersOf coords x y p) p o (replicate room zero64) .refused r (fits ∙ e)) ∙ sym (ruled-refused refuse (given o) e)
       go check.Pass e =
           let behind = none-append (valueTests (numbersOf coords x y p)) _ (none-head _ _ _ e .1) .1 in
           let enough = room-enough n p (length out) (length summary) (none-head _ _ _ behind .0) in

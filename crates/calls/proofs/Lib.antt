@@ -1,4 +1,3 @@
-pub mod Fits
 pub mod Bytes
 pub mod Answers
 pub mod Judged
