@@ -4,9 +4,8 @@ mod memory; // trials remembered, so that none is worked twice
 mod seeking; // golden section over the trials
 
 use golden::Bracket;
-use setup::GwrBandwidth;
-
 pub use seeking::optimize_bandwidth;
+use setup::GwrBandwidth;
 
 // A trial's score, and the solves that it took.
 pub struct Trial {

@@ -5,10 +5,10 @@ ghost use Rattle.setup.specs.Data.{dataOf};
 ghost use Rattle.setup.specs.Shape.{Shaped};
 ghost use Rattle.search.specs.Trial.{trialOf};
 ghost use Rattle.search.specs.Memo.{keyOf, Slot, Remembered};
-use setup::GwrBandwidth;
-use setup::Setup;
 use super::Trial;
 use super::trials::evaluate_aicc;
+use setup::GwrBandwidth;
+use setup::Setup;
 
 // What tells a bandwidth from the others of its kind.
 fn key_of(b: GwrBandwidth) -> u64

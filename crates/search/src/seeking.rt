@@ -5,11 +5,11 @@ ghost use Rattle.setup.specs.Data.{dataOf};
 ghost use Rattle.setup.specs.Shape.{Shaped};
 ghost use Rattle.search.specs.Memo.{Remembered};
 ghost use Rattle.search.specs.Search.{roundOf, openedOf, goldenOf, optimizeBandwidth};
-use golden::Bracket;
-use setup::Setup;
 use super::Optimum;
 use super::Search;
 use super::memory::trial_of;
+use golden::Bracket;
+use setup::Setup;
 
 // The bracket's two inner points tried.
 fn opened_of(
@@ -68,14 +68,7 @@ fn round_of(
 }
 
 // 000's `golden_section_min` from lo to hi, lo below hi: two trials, then at most a hundred rounds of one.
-fn golden_section_min(
-    coords: &[f64],
-    x: &[f64],
-    y: &[f64],
-    u: Setup,
-    lo: f64,
-    hi: f64,
-) -> Search
+fn golden_section_min(coords: &[f64], x: &[f64], y: &[f64], u: Setup, lo: f64, hi: f64) -> Search
     requires { ⌜ Shaped u (dataOf (now coords) (now x) (now y)) ⌝ }
     ensures { λ r. ⌜ r ≡ goldenOf u (dataOf (now (coords .entry)) (now (x .entry)) (now (y .entry))) lo hi ⌝ }
 {
