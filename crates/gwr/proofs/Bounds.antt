@@ -33,7 +33,7 @@ use Rattle.sweep.specs.Finish.{finishOf}
 use Rattle.sweep.proofs.Sweeps.{sweep-few, sweep-solves}
 use Rattle.sweep.proofs.Reached.{Reached, sweep-reached, sweep-long}
 use Rattle.search.specs.Search.{optimizeBandwidth}
-use Rattle.search.proofs.Solves.{optimum-few}
+use Rattle.search.proofs.Solves.{optimum-made}
 use Rattle.gwr.specs.declared.FitAnswer.{FitAnswer}
 use Rattle.gwr.specs.declared.FitAnswer.the-variants.{Done, Rejected}
 use Rattle.gwr.specs.declared.Fit.{Fit}
@@ -81,7 +81,7 @@ module _ (d : Data) (p : ℕ) (o : GwrOptions) (out : List Float) where
   planned-fits : (q : Plan) → Accepted d p o (length out) → Fits (u .n) p (length out) (planned q u d out)
   unfolding soughtOf
   planned-fits (Settled b) a = final-fits b 0 a (omega arith)
-  planned-fits (Sought lo hi) a = final-fits (optimizeBandwidth u d lo hi .bandwidth) (optimizeBandwidth u d lo hi .solves) a (optimum-few u d (a .shaped .sized .few) lo hi)
+  planned-fits (Sought lo hi) a = final-fits (optimizeBandwidth u d lo hi .bandwidth) (optimizeBandwidth u d lo hi .solves) a (optimum-made u d (a .shaped .sized) lo hi (optimizeBandwidth u d lo hi) refl .1)
 
   pub fits : Fits (u .n) p (length out) (gwrFit d p o out)
   unfolding gwrFit
