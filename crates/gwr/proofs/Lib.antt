@@ -1,3 +1,4 @@
 pub mod Fits
 pub mod Literal
+pub mod Swept
 pub mod Bounds
