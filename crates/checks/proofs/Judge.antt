@@ -74,6 +74,16 @@ none-append (t ∷ l) m h =
     let b = none-append l m (a .1) in
     (judge-rest (t .1) l (a .0) ∙ b .0, b .1)
 
+-- the list has the test b of r, wherever it stands
+pub data Among (b : Bool) (r : Refusal) : List (Bool × Refusal) → Type 0 where
+  here : {l : List (Bool × Refusal)} → Among b r ((b, r) ∷ l)
+  later : {t : Bool × Refusal} {l : List (Bool × Refusal)} → Among b r l → Among b r (t ∷ l)
+
+-- of a list of which none holds, this one does not
+pub none-among : {b : Bool} {l : List (Bool × Refusal)} (r : Refusal) → NoneOf l → Among b r l → b ≡ false
+none-among r h here = none-head _ _ _ h .0
+none-among r h (later a) = none-among r (none-head _ _ _ h .1) a
+
 pub append-none : (l m : List (Bool × Refusal)) → NoneOf l → NoneOf m → NoneOf (l ++ m)
 append-none l m h k = judge-append l m ∙ ruled-pass Refused (judge m) h ∙ k
 

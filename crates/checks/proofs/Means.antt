@@ -3,7 +3,7 @@ use mathlib.Core.Path.{_≡_, refl, sym, _∙_}
 use mathlib.Core.Bool.{Bool, true, false, not, _&&_, _||_, true≢false}
 use mathlib.Core.Logic.{_⊎_, inl, inr}
 use Prim.Native.Nat.{ℕ, _<_}
-use borrow.Author.Tests.{eqb-true, ltb-true, not-true, eq-eqb, lt-ltb}
+use borrow.Author.Tests.{eqb-true, ltb-true, eq-eqb, lt-ltb}
 use lib.Dec.{T, eqb, ltb}
 use Rattle.checks.specs.Judge.{Means}
 

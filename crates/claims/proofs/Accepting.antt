@@ -17,7 +17,7 @@ use Rattle.refusal.specs.declared.Refusal.{Refusal}
 use Rattle.refusal.specs.declared.Refusal.the-variants.{NoCoordinates, OddCoordinates, TooManyObservations, TooManyPredictors, PredictorLength, ResponseLength, TooFewObservations, ResponseNotFinite, CoordinateNotFinite, PredictorNotFinite, UnusableDistance, NoDistanceRange, OutputTooShort}
 use Rattle.setup.specs.declared.GwrBandwidth.{GwrBandwidth}
 use Rattle.setup.specs.declared.GwrBandwidth.the-variants.{Fixed, AdaptiveKnn}
-use Rattle.neighbours.specs.Count.{resolvedCount}
+use Rattle.counts.specs.Count.{resolveCount}
 use Rattle.checks.specs.declared.Check.{Check}
 use Rattle.checks.specs.declared.Check.the-variants as check
 use Rattle.setup.specs.declared.GwrOptions.{GwrOptions}
@@ -162,7 +162,7 @@ abbrev usablePlan : Bool → GwrBandwidth → Float → ℕ → ℕ → Plan
 usablePlan true (Fixed b) hi n p = distancePlan (leastDistance hi n) hi
 usablePlan true (AdaptiveKnn k) hi n p = countPlan n p
 usablePlan false (Fixed b) hi n p = plan.Settled (Fixed b)
-usablePlan false (AdaptiveKnn k) hi n p = plan.Settled (AdaptiveKnn (resolvedCount k n))
+usablePlan false (AdaptiveKnn k) hi n p = plan.Settled (AdaptiveKnn (resolveCount k n))
 
 plan-is : (coords : List Float) (n p : ℕ) (o : GwrOptions) → planOf coords n p o ≡ after (judge (optionTests coords n o)) (usablePlan (o .«optimize_bandwidth») (o .bandwidth) (greatestDistance coords n) n p)
 unfolding planOf searchPlan givenPlan rangePlan judge after

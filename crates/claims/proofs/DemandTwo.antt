@@ -7,21 +7,21 @@ use Prim.Native.Nat.{ℕ, zero, suc, _+_, _*_, _/_, _≤_, _<_}
 use native.Mathlib.Omega.{arith}
 use lib.Dec.{T}
 use lib.ListN.{length, getD}
-use lib.Ieee.{Float, nan, isNan}
+use lib.Ieee.{Float, nan}
 use lib.Ieee.Scale.{finite}
-use Rattle.real.proofs.RoundedOnce.{plus-once, minus-once, times-once, over-once, opposite-exact, less-exact}
+use Rattle.real.proofs.RoundedOnce.{plus-once, minus-once, times-once, over-once, opposite-exact, less-exact, constants-exact}
 use Rattle.root.proofs.Nearest.{root-nearest, root-of-negative, root-of-nan, root-of-infinity, root-of-zero}
 use Rattle.elementary.proofs.ExpRange.{exp-in, K-le}
 use Rattle.elementary.proofs.LnRange.{ln-finite}
 use Rattle.elementary.proofs.SplitExact.{split-exact}
-use Rattle.kernel.proofs.DistanceRange.{distance-number}
 use Rattle.kernel.proofs.WeightRange.{weights-in, weight-zero}
-use Rattle.kernel.proofs.Published.{weight-rounded, weight-apart, gaussian-exact, bisquare-exact, bisquare-outside, exponential-exact, constants-exact}
+use Rattle.kernel.proofs.Published.{weight-rounded, weight-apart, gaussian-exact, bisquare-exact, bisquare-outside, exponential-exact}
+use Rattle.counts.proofs.Roots.{ceil-root-least}
+use Rattle.neighbours.specs.declared.Own.the-variants.{At}
 use Rattle.neighbours.specs.Walk.{between}
-use Rattle.neighbours.proofs.Roots.{ceil-root-least}
-use Rattle.neighbours.proofs.Smallest.{kept-smallest, bandwidth-is-kth, all-met}
+use Rattle.neighbours.proofs.Smallest.{nearest-is-kth, all-ascending, all-met}
 use Rattle.normal.proofs.WeightSum.{weight-sum}
-use Rattle.criterion.proofs.Published.{published-exact, two-exact, aicc-rounded, aicc-refused, aicc-exhausted, aicc-floored}
+use Rattle.criterion.proofs.Published.{published-exact, aicc-rounded, aicc-refused, aicc-exhausted, aicc-floored}
 use Rattle.golden.proofs.Round.{G-is, G2-is}
 use Rattle.golden.proofs.Points.{near-golden, start-section, round-section, residues, golden-section}
 use Rattle.golden.proofs.Kiefer.{round-kiefer, searched, round-narrows, bottom-kept, bottom-stays}
@@ -55,12 +55,12 @@ module _ (coords x y : List Float) (p : ℕ) (o : GwrOptions) (out : ℕ) (accep
   few : n ≤ 512
   few = let h : 512 < n → ⊥ = accepted .1 .1 .0 in omega arith
 
-  -- no distance between its places is NaN
-  numbers : (i : ℕ) → i < n → (j : ℕ) → j < n → T (not (isNan (between coords i j)))
-  unfolding between
-  numbers i h j l =
-      let at : ℕ → Float = λ (c : ℕ). getD coords c nan in
-      distance-number (at (2 * i)) (at (2 * i + 1)) (at (2 * j)) (at (2 * j + 1)) (places (2 * i) (omega arith)) (places (2 * i + 1) (omega arith)) (places (2 * j) (omega arith)) (places (2 * j + 1) (omega arith))
+  -- and a location among them
+  east : (i : ℕ) → i < n → T (finite (getD coords (2 * i) nan))
+  east i h = places (2 * i) (omega arith)
+
+  north : (i : ℕ) → i < n → T (finite (getD coords (2 * i + 1) nan))
+  north i h = places (2 * i + 1) (omega arith)
 
 pub demand-two : DemandTwo
 unfolding fitOf
@@ -95,6 +95,7 @@ demand-two =
       bisquare = bisquare-exact;
       bisquare-outside = bisquare-outside;
       exponential = exponential-exact;
+      plus-once = plus-once;
       minus-once = minus-once;
       times-once = times-once;
       over-once = over-once;
@@ -105,14 +106,13 @@ demand-two =
       weight-own = weight-zero;
       weight-sum =
           λ coords x y p o out a i h k b. weight-sum (jobData coords x y p) k i b (places coords x y p o out a) h (few coords x y p o out a);
-      kth-smallest = λ coords x y p o out a i k h some. bandwidth-is-kth coords i k some (length coords / 2) h (places coords x y p o out a);
-      all-distances = all-met;
+      kth-smallest = λ coords x y p o out a i k h some. nearest-is-kth coords _ _ (At i) (length coords / 2) (east coords x y p o out a i h) (north coords x y p o out a i h) (places coords x y p o out a) k some;
+      all-distances = λ coords i m. all-met (At i) (between coords i) m;
       ascending =
-          λ coords x y p o out a i h. kept-smallest coords i 1 (omega arith) (length coords / 2) (λ j l _. numbers coords x y p o out a i h j l) .up;
+          λ coords x y p o out a i h. all-ascending coords _ _ (At i) (length coords / 2) (east coords x y p o out a i h) (north coords x y p o out a i h) (places coords x y p o out a);
       least-root = ceil-root-least;
       aicc-formula = aicc-rounded;
       aicc-order = published-exact;
-      aicc-once = λ pi root ln. (plus-once, minus-once, times-once, over-once, two-exact);
       aicc-zero = aicc-floored;
       aicc-exhausted = aicc-exhausted;
       aicc-refused = aicc-refused;

@@ -15,9 +15,9 @@ use Rattle.root.specs.Root.{root}
 use Rattle.root.proofs.Nearest.{root-of-nan}
 use Rattle.kernel.specs.Weight.{squaresOf, distanceOf}
 use Rattle.kernel.proofs.DistanceRange.{squares-nonneg}
-use Rattle.kernel.proofs.RootOrder.{root-fits}
+use Rattle.root.proofs.Order.{root-fits}
 use Rattle.kernel.proofs.Reaches.{squares-fits, distance-is}
-use Rattle.golden.specs.Kiefer.{Span, Searched}
+use Rattle.golden.specs.Kiefer.{Span, SearchInside}
 use Rattle.golden.proofs.Kiefer.{search-span, searched}
 use Rattle.setup.specs.declared.GwrOptions.{GwrOptions}
 use Rattle.plan.specs.declared.Plan.the-variants as plan
@@ -59,5 +59,5 @@ module _ (coords x y : List Float) (p : ℕ) (o : GwrOptions) (out : List Float)
       let r = sought-ranged coords x y p o (length out) lo hi (greatest-held coords (length coords / 2)) sought in
       search-span lo hi (r .low-held) (r .high-held) (r .low-finite) (r .high-finite) (r .from-zero) (r .order)
 
-  pub job-searched : (s t : Float) (l : List Float) → Searched lo hi s t l
+  pub job-searched : (s t : Float) (l : List Float) → SearchInside lo hi s t l
   job-searched = searched job-span

@@ -10,6 +10,10 @@ use lib.Dec.{eqb, leb}
 use lib.ListN.{length}
 use lib.Ieee.{Float}
 use lib.Ieee.Scale.{finite}
+use Rattle.root.specs.Root.{root}
+use Rattle.real.specs.Arithmetic.{rounded}
+use Rattle.real.specs.Reals.{fromCount}
+use Rattle.criterion.specs.Published.{deviation}
 use Rattle.refusal.specs.declared.Refusal.{Refusal}
 use Rattle.refusal.specs.declared.Refusal.the-variants.{UnfitRecord, AlreadyEnded, LengthsDiffer}
 use Rattle.setup.specs.declared.GwrBandwidth.{GwrBandwidth}
@@ -19,7 +23,7 @@ use Rattle.local.specs.declared.Outcome.{Outcome}
 use Rattle.local.specs.declared.Outcome.the-variants as outcome
 use Rattle.criterion.specs.declared.Criterion.{Criterion}
 use Rattle.criterion.specs.declared.Criterion.the-variants as criterion
-use Rattle.criterion.specs.Aicc.{realOf, deviation, correctedAic, scoreOf}
+use Rattle.criterion.specs.Aicc.{correctedAic, scoreOf}
 use Rattle.golden.specs.Golden.{narrowOf}
 use Rattle.checks.specs.declared.Check.{Check}
 use Rattle.checks.specs.declared.Check.the-variants as check
@@ -166,7 +170,7 @@ StageMet (Ended c) = CriterionMet c
 
 aic-met : (n : ℕ) (q t : Float) → CriterionMet (correctedAic n q t)
 unfolding correctedAic
-aic-met n q t = either CriterionMet (finite (deviation (realOf n) q)) _ _ tt (inr (inr (inr refl)))
+aic-met n q t = either CriterionMet (finite (deviation rounded root (fromCount n) q)) _ _ tt (inr (inr (inr refl)))
 
 close-met : (x : Stage) (j : Job) (c : Criterion) → CriterionMet c → StageMet (j .stage) → StageMet (closeAt x j c .stage)
 close-met First j c m h = tt

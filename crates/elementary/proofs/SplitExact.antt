@@ -15,7 +15,8 @@ use lib.Ieee.Exact.{HasValue, odd-sign}
 use lib.Ieee.Fits.{down-pos, kept-lt, and-r}
 use lib.Ieee.Bits.{ofBits-toBits}
 use Rattle.real.proofs.SignedOrder.{le→sle}
-use Rattle.elementary.specs.Ln.{leastNormal, mantissa, exponent}
+use Rattle.real.specs.Reals.{leastNormal}
+use Rattle.elementary.specs.Ln.{mantissa, exponent}
 use Rattle.elementary.specs.LnSteps.{SplitAs}
 
 -- a fraction and its equal

@@ -12,7 +12,7 @@ use Rattle.elementary.specs.Ln.{lnv}
 use Rattle.kernel.specs.declared.GwrKernel.the-variants.{Bisquare}
 use Rattle.kernel.specs.Weight.{weightOf}
 use Rattle.setup.specs.declared.GwrBandwidth.the-variants.{Fixed, AdaptiveKnn}
-use Rattle.neighbours.specs.Count.{resolvedCount}
+use Rattle.counts.specs.Count.{resolveCount}
 use Rattle.setup.specs.declared.GwrOptions.{GwrOptions}
 use Rattle.gwr.specs.declared.FitAnswer.{FitAnswer}
 use Rattle.gwr.specs.declared.FitAnswer.the-variants as fit
@@ -57,10 +57,10 @@ Scores (fit.Rejected r) score = ⊥
 
 pub record ElevenExamples : Type 0 where
   -- count 0 gives 1 for n = 1, 4 for n = 10, 23 for n = 512; count 100 gives 9 for n = 10
-  pub one-alone : resolvedCount 0 1 ≡ 1
-  pub among-ten : resolvedCount 0 10 ≡ 4
-  pub among-most : resolvedCount 0 512 ≡ 23
-  pub capped : resolvedCount 100 10 ≡ 9
+  pub one-alone : resolveCount 0 1 ≡ 1
+  pub among-ten : resolveCount 0 10 ≡ 4
+  pub among-most : resolveCount 0 512 ≡ 23
+  pub capped : resolveCount 100 10 ≡ 9
   -- Bisquare: d = 1, b = 2 gives 0.5625; d = b gives 0
   pub bisquare-within : weightOf Bisquare (whole 1) (whole 2) ≡ ofBits binary64 0x3FE2_0000_0000_0000
   pub bisquare-border : weightOf Bisquare (whole 2) (whole 2) ≡ zero64

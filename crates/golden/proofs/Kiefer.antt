@@ -1,7 +1,7 @@
 -- Kiefer's search as specs/Kiefer states it. Each round is one of his. Every new point lies in the part kept, rounding included. A round that begins in order narrows the bracket; no
 -- later bracket or point leaves one that holds its own points. The bottom of a valley stays in the bracket. The answer is a point tried: that it is the earliest of those with the
 -- least score is `golden-best` of crates/claims/proofs/Best.
-use mathlib.Core.Path.{_≡_, refl, _∙_, subst, subst⁻¹}
+use mathlib.Core.Path.{_≡_, refl, subst⁻¹, _∙_, subst}
 use mathlib.Core.Bool.{Bool, true, false, cond, not}
 use mathlib.Core.List.{List, [], _∷_}
 use mathlib.Core.Logic.{_⊎_, inl, inr}
@@ -17,9 +17,9 @@ use Rattle.real.specs.Fold.{turns}
 use Rattle.real.proofs.SignedOrder.{natural, nat-fin, in-fin, le-self, le-total, add-mono, mul-smono}
 use Rattle.real.proofs.Toward.{forward, width-finite, within-finite, toward-fin, toward-low, toward-high}
 use Rattle.golden.specs.declared.Bracket.{Bracket}
-use Rattle.golden.specs.Golden.{G, G2, startOf, firstOf, secondAt, secondOf, aimOf, bestAt, improvedOf, leftOf, rightOf, narrowOf}
-use Rattle.golden.specs.Kiefer.{Span, Inside, Within, Framed, Ordered, KieferRound, Narrowed, Valley, ScoredBy, Follows, opened, playedOf, triedOf, Each, Among, Steady, Narrowing, pointsOf, Searched}
-use Rattle.golden.proofs.Round.{improved-is, best-is, best-of-two}
+use Rattle.golden.specs.Golden.{G, G2, startOf, firstOf, secondOf, aimOf, improvedOf, leftOf, rightOf, narrowOf}
+use Rattle.golden.specs.Kiefer.{Span, Inside, Within, Framed, Ordered, KieferRound, Narrowed, Valley, ScoredBy, Follows, opened, playedOf, triedOf, Among, Steady, Narrowing, pointsOf, SearchInside}
+use Rattle.golden.proofs.Round.{best-is, best-of-two}
 
 -- ---- the proportions: from 0 to 2 / 3
 record Share (r : Float) : Type 0 where
@@ -76,6 +76,10 @@ search-span lo hi p q n k z h =
     record { low-held = p; high-held = q; low-finite = n; high-finite = k; order = h; width = width-finite binary64 lo hi p q n k z h }
 
 -- ---- the two branches of a round
+-- the best point is x with the score v
+abbrev bestAt : Bracket → Float → Float → Bracket
+bestAt g x v = record { a = g .a; b = g .b; c = g .c; d = g .d; h = g .h; fc = g .fc; fd = g .fd; best = x; low = v }
+
 module _ (g : Bracket) where
   aim-left : lt (g .fc) (g .fd) ≡ true → aimOf g ≡ add binary64 (g .a) (mul binary64 G2 (sub binary64 (g .d) (g .a)))
   unfolding aimOf
@@ -89,19 +93,29 @@ module _ (g : Bracket) where
       → (lt (g .fc) (g .fd) ≡ true → (x v : Float) → Q (leftOf (bestAt g x v) (aimOf g) s))
       → (lt (g .fc) (g .fd) ≡ false → (x v : Float) → Q (rightOf (bestAt g x v) (aimOf g) s))
       → Q (narrowOf g s)
-  unfolding narrowOf
+  unfolding narrowOf improvedOf
   by-side s Q l r = go (lt (g .fc) (g .fd)) refl
     where
       go : (b : Bool) → lt (g .fc) (g .fd) ≡ b → Q (narrowOf g s)
-      go true e = rw (improved-is, e) (l e _ _)
-      go false e = rw (improved-is, e) (r e _ _)
+      go true e = rw e (l e _ _)
+      go false e = rw e (r e _ _)
 
 -- ---- each round is one of Kiefer's
 pub round-kiefer : (g : Bracket) (s : Float) → KieferRound g (narrowOf g s) s
 round-kiefer g s =
     by-side g s (λ k. KieferRound g k s)
-    (λ e x v. inl (record { lower = e; left = refl; right = refl; reused = refl; reused-score = refl; tried = refl; tried-score = refl; width = refl }))
-    (λ e x v. inr (record { lower = e; left = refl; right = refl; reused = refl; reused-score = refl; tried = refl; tried-score = refl; width = refl }))
+    (λ e x v. record { left = rw e; right = rw e; c = rw e; c-score = rw e; d = rw e; d-score = rw e; width = refl })
+    (λ e x v. record { left = rw e; right = rw e; c = rw e; c-score = rw e; d = rw e; d-score = rw e; width = refl })
+
+-- ---- every member
+abbrev pub Each : (Float → Type 0) → List Float → Type 0
+Each P [] = Unit
+Each P (x ∷ l) = P x × Each P l
+
+each-among : (P : Float → Type 0) (l : List Float) → Each P l → (x : Float) → Among x l → P x
+each-among P [] e x a = absurd a
+each-among P (y ∷ l) e x (inl h) = subst⁻¹ P h (e .0)
+each-among P (y ∷ l) e x (inr a) = each-among P l (e .1) x a
 
 -- ---- what lies from lo to hi stays there, whatever the scores
 module _ {lo hi : Float} (w : Span lo hi) where
@@ -150,13 +164,12 @@ module _ {lo hi : Float} (w : Span lo hi) where
       (mul-smono binary64 G2 G (sub binary64 hi lo) (nat-fin G2 (G2-share .natural)) (nat-fin G (G-share .natural)) n (unfold le ofBits in tt))
 
 -- scores move no point
+abbrev secondAt : Bracket → Float → Float → Float → Bracket
+secondAt g s x v = record { a = g .a; b = g .b; c = g .c; d = g .d; h = g .h; fc = g .fc; fd = s; best = x; low = v }
+
 by-second : (g : Bracket) (s : Float) (Q : Bracket → Type 0) → ((x v : Float) → Q (secondAt g s x v)) → Q (secondOf g s)
 unfolding secondOf
-by-second g s Q q = go (le (g .fc) s)
-  where
-    go : (b : Bool) → Q (cond b (secondAt g s (g .c) (g .fc)) (secondAt g s (g .d) s))
-    go true = q _ _
-    go false = q _ _
+by-second g s Q q = q _ _
 
 pub opened-framed : {lo hi : Float} (w : Span lo hi) (s t : Float) → Framed (opened lo hi s t)
 unfolding startOf
@@ -280,13 +293,13 @@ best-tried g (s ∷ l) = go (best-tried (narrowOf g s) l) (best-is g s)
     go (inl e) (inr h) = inr (inl (e ∙ h .0))
     go (inr q) h = inr (inr q)
 
-pub searched : {lo hi : Float} (w : Span lo hi) (s t : Float) (l : List Float) → Searched lo hi s t l
+pub searched : {lo hi : Float} (w : Span lo hi) (s t : Float) (l : List Float) → SearchInside lo hi s t l
 unfolding startOf
 searched {lo} {hi} w s t l =
     let g = opened lo hi s t in
     let i = by-second (firstOf (startOf lo hi) s) t (Within lo hi) (λ x v. record { a = low-inside w; b = high-inside w; c = start-framed w .c; d = start-framed w .d }) in
     record {
-      points = (start-framed w .c, (start-framed w .d, tried-inside w g l i));
+      points = each-among (Inside lo hi) (pointsOf lo hi s t l) (start-framed w .c, (start-framed w .d, tried-inside w g l i));
       bracket = played-within w g l i;
       answer = go (best-tried g l) (best-of-two (firstOf (startOf lo hi) s) t);
     }

@@ -4,9 +4,8 @@ use mathlib.Core.Bool.{Bool, true, false, cond}
 use lib.Dec.{lit<}
 use lib.Ieee.{Float, binary64, mul, lt, ofBits}
 use Rattle.golden.specs.declared.Bracket.{Bracket}
-use Rattle.golden.specs.Golden.{G, G2, startOf, goesLeft, aimOf, narrowOf}
-use Rattle.golden.specs.Points.{lowerPoint, upperPoint, sectionAt, nextSection, rounded, sectionOf, CommutativeRing, exact, residual, Residues, GoldenSection, NearGolden}
-use Rattle.golden.proofs.Round.{improved-is}
+use Rattle.golden.specs.Golden.{G, G2, startOf, goesLeft, aimOf, improvedOf, narrowOf}
+use Rattle.golden.specs.Points.{lowerPoint, upperPoint, sectionAt, nextSection, roundedPoints, sectionOf, CommutativeRing, exactPoints, goldenResidual, Residues, GoldenSection, NearGolden}
 
 -- ---- how far G and G2 are from the golden section
 pub near-golden : NearGolden
@@ -18,17 +17,17 @@ square-is : G2 ≡ mul binary64 G G
 unfolding mul ofBits
 square-is = refl
 
-pub start-section : (lo hi : Float) → sectionOf (startOf lo hi) ≡ sectionAt rounded lo hi
+pub start-section : (lo hi : Float) → sectionOf (startOf lo hi) ≡ sectionAt roundedPoints lo hi
 unfolding startOf sectionAt
 start-section lo hi = rw square-is
 
-pub round-section : (g : Bracket) (s : Float) → sectionOf (narrowOf g s) ≡ nextSection rounded (goesLeft g) (sectionOf g)
-unfolding narrowOf aimOf nextSection
+pub round-section : (g : Bracket) (s : Float) → sectionOf (narrowOf g s) ≡ nextSection roundedPoints (goesLeft g) (sectionOf g)
+unfolding narrowOf improvedOf aimOf nextSection
 round-section g s = go (lt (g .fc) (g .fd)) refl
   where
-    go : (b : Bool) → lt (g .fc) (g .fd) ≡ b → sectionOf (narrowOf g s) ≡ nextSection rounded (goesLeft g) (sectionOf g)
-    go true e = rw (improved-is, e, square-is)
-    go false e = rw (improved-is, e)
+    go : (b : Bool) → lt (g .fc) (g .fd) ≡ b → sectionOf (narrowOf g s) ≡ nextSection roundedPoints (goesLeft g) (sectionOf g)
+    go true e = rw (e, square-is)
+    go false e = rw e
 
 -- ---- the laws of a commutative ring that the identities take
 module _ {R : Type 0} (K : CommutativeRing R) where
@@ -39,10 +38,10 @@ module _ {R : Type 0} (K : CommutativeRing R) where
   infix 8 -_
   -- c and d of the bracket from a to b, with the ratio g
   abbrev low : R → R → R → R
-  low g = lowerPoint (exact K g)
+  low g = lowerPoint (exactPoints K g)
 
   abbrev high : R → R → R → R
-  high g = upperPoint (exact K g)
+  high g = upperPoint (exactPoints K g)
 
   -- (x + y) - x = y
   less-first : (x y : R) → x + y + - x ≡ y
@@ -79,7 +78,7 @@ module _ {R : Type 0} (K : CommutativeRing R) where
     h = b + - a
 
     abbrev e : R
-    e = residual K g
+    e = goldenResidual K g
 
     abbrev c : R
     c = low g a b
@@ -115,7 +114,7 @@ module _ {R : Type 0} (K : CommutativeRing R) where
         ∙ ap (λ (v : R). a + (g * h + v)) (sym (times-associative e g h) ∙ ap (λ (v : R). v * h) (times-commutative e g) ∙ times-associative g e h)
         ∙ sym (plus-associative a (g * h) (g * (e * h)))
 
-    pub residues : Residues K g a b
+    pub residues : Residues (exactPoints K g) (goldenResidual K g) a b
     residues =
         let u = e * h in
         let v = (g + - (g * g)) * u in
@@ -136,7 +135,7 @@ module _ {R : Type 0} (K : CommutativeRing R) where
 
   -- ---- the golden section
   module _ (g : R) (gold : g * g ≡ 𝟙 + - g) where
-    no-residual : (w : R) → residual K g * w ≡ 𝟘
+    no-residual : (w : R) → goldenResidual K g * w ≡ 𝟘
     no-residual w =
         ap (λ (v : R). (v + g + - 𝟙) * w) gold
         ∙ ap (λ (v : R). (v + - 𝟙) * w) (plus-commutative (𝟙 + - g) g ∙ back g 𝟙)
@@ -156,7 +155,7 @@ module _ {R : Type 0} (K : CommutativeRing R) where
           ∙ ap (λ (v : R). high g a b + v) (times-zero (g + - (g * g)))
           ∙ plus-zero (high g a b)
 
-    pub golden-section : (a b : R) → GoldenSection K g a b
+    pub golden-section : (a b : R) → GoldenSection (exactPoints K g) a b
     unfolding sectionAt nextSection
     golden-section a b =
         record {
@@ -170,6 +169,6 @@ module _ {R : Type 0} (K : CommutativeRing R) where
               (plus-commutative (high g (low g a b) b) (high g a b) ∙ ap (λ (v : R). v + high g (low g a b) b) (sym (right-reused a b)) ∙ mirror (low g a b) b);
         }
       where
-        sides : (left : Bool) → nextSection (exact K g) left (sectionAt (exact K g) a b) ≡ sectionAt (exact K g) (cond left a (low g a b)) (cond left (high g a b) b)
+        sides : (left : Bool) → nextSection (exactPoints K g) left (sectionAt (exactPoints K g) a b) ≡ sectionAt (exactPoints K g) (cond left a (low g a b)) (cond left (high g a b) b)
         sides true = ap (λ (v : R). record { a = a; b = high g a b; c = low g a (high g a b); d = v }) (sym (left-reused g a b))
         sides false = ap (λ (v : R). record { a = low g a b; b = b; c = v; d = high g (low g a b) b }) (sym (right-reused a b))

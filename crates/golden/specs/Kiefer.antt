@@ -13,14 +13,14 @@
 -- 4. Its answer is the best point tried. The published answer is the last bracket.
 -- 5. It neither asks nor tests that the score has one valley. Where it has more, the answer is still the best point tried, and nothing is said of the points between.
 use mathlib.Core.Path.{_≡_}
-use mathlib.Core.Bool.{true, false, not}
+use mathlib.Core.Bool.{not, cond}
 use mathlib.Core.List.{List, [], _∷_}
 use mathlib.Core.Logic.{_⊎_}
 use lib.Dec.{T}
 use lib.Ieee.{Float, binary64, sub, lt, le, fits}
 use lib.Ieee.Scale.{finite}
 use Rattle.golden.specs.declared.Bracket.{Bracket}
-use Rattle.golden.specs.Golden.{startOf, firstOf, secondOf, aimOf, narrowOf}
+use Rattle.golden.specs.Golden.{startOf, firstOf, secondOf, goesLeft, aimOf, narrowOf}
 
 -- ---- places
 
@@ -56,33 +56,18 @@ pub record Framed (g : Bracket) : Type 0 where
 abbrev pub Ordered : Bracket → Type 0
 Ordered g = T (le (g .c) (g .d))
 
--- ---- a round from g to k, whose trial scores s
+-- ---- a round
 
--- c scores lower: the part from a to d is kept, c and its score are reused as d, the new c is tried
-pub record KeepsLeft (g k : Bracket) (s : Float) : Type 0 where
-  pub lower : lt (g .fc) (g .fd) ≡ true
-  pub left : k .a ≡ g .a
-  pub right : k .b ≡ g .d
-  pub reused : k .d ≡ g .c
-  pub reused-score : k .fd ≡ g .fc
-  pub tried : k .c ≡ aimOf g
-  pub tried-score : k .fc ≡ s
+-- from g to k, whose trial scores s. Where c scores lower, the part from a to d is kept, c and its score are reused as d, and the new c is tried;
+-- where it does not, the part from c to b is kept, d and its score are reused as c, and the new d is tried
+pub record KieferRound (g k : Bracket) (s : Float) : Type 0 where
+  pub left : k .a ≡ cond (goesLeft g) (g .a) (g .c)
+  pub right : k .b ≡ cond (goesLeft g) (g .d) (g .b)
+  pub c : k .c ≡ cond (goesLeft g) (aimOf g) (g .d)
+  pub c-score : k .fc ≡ cond (goesLeft g) s (g .fd)
+  pub d : k .d ≡ cond (goesLeft g) (g .c) (aimOf g)
+  pub d-score : k .fd ≡ cond (goesLeft g) (g .fc) s
   pub width : k .h ≡ sub binary64 (k .b) (k .a)
-
--- it does not: the part from c to b is kept, d and its score are reused as c, the new d is tried
-pub record KeepsRight (g k : Bracket) (s : Float) : Type 0 where
-  pub lower : lt (g .fc) (g .fd) ≡ false
-  pub left : k .a ≡ g .c
-  pub right : k .b ≡ g .b
-  pub reused : k .c ≡ g .d
-  pub reused-score : k .fc ≡ g .fd
-  pub tried : k .d ≡ aimOf g
-  pub tried-score : k .fd ≡ s
-  pub width : k .h ≡ sub binary64 (k .b) (k .a)
-
--- a round of the published search
-abbrev pub KieferRound : Bracket → Bracket → Float → Type 0
-KieferRound g k s = KeepsLeft g k s ⊎ KeepsRight g k s
 
 -- the bracket k lies within the bracket g, and its inner points lie in it
 pub record Narrowed (g k : Bracket) : Type 0 where
@@ -106,12 +91,7 @@ unfoldable pub triedOf : Bracket → List Float → List Float
 triedOf g [] = []
 triedOf g (s ∷ l) = aimOf g ∷ triedOf (narrowOf g s) l
 
--- every member
-abbrev pub Each : (Float → Type 0) → List Float → Type 0
-Each P [] = Unit
-Each P (x ∷ l) = P x × Each P l
-
--- some member
+-- x is one of them
 abbrev pub Among : Float → List Float → Type 0
 Among x [] = ⊥
 Among x (y ∷ l) = (x ≡ y) ⊎ Among x l
@@ -131,8 +111,8 @@ abbrev pub pointsOf : Float → Float → Float → Float → List Float → Lis
 pointsOf lo hi s t l = startOf lo hi .c ∷ startOf lo hi .d ∷ triedOf (opened lo hi s t) l
 
 -- a search of any number of rounds: every point tried lies from lo to hi, so does the last bracket, and the answer is a point tried
-pub record Searched (lo hi s t : Float) (l : List Float) : Type 0 where
-  pub points : Each (Inside lo hi) (pointsOf lo hi s t l)
+pub record SearchInside (lo hi s t : Float) (l : List Float) : Type 0 where
+  pub points : (x : Float) → Among x (pointsOf lo hi s t l) → Inside lo hi x
   pub bracket : Within lo hi (playedOf (opened lo hi s t) l)
   pub answer : Among (playedOf (opened lo hi s t) l .best) (pointsOf lo hi s t l)
 

@@ -25,7 +25,7 @@ use Rattle.search.specs.declared.Optimum.{Optimum}
 use Rattle.search.specs.Search.{optimizeBandwidth}
 use Rattle.gwr.specs.declared.FitAnswer.the-variants.{Done}
 use Rattle.gwr.specs.declared.Fit.{Fit}
-use Rattle.gwr.specs.Fit.{fitFrom, finalOf, foundOf, soughtOf, planned, answered, gwrFit}
+use Rattle.gwr.specs.Fit.{fitFrom, finalOf, soughtOf, planned, answered, gwrFit}
 
 module _ (u : Setup) (d : Data) where
   abbrev fit : Finish → ℕ → Fit
@@ -44,9 +44,9 @@ module _ (u : Setup) (d : Data) where
   solves-made b out after s few h k hk = let m = made-few true u d b s out after h in omega (arith, m .1, few, hk)
 
   -- a job whose bandwidth was sought
-  pub sought-is : (lo hi : Float) (m : Optimum) (out : List Float) (r : Fit × List Float) → m ≡ optimizeBandwidth u d lo hi → r ≡ foundOf u d m out → r ≡ soughtOf u d lo hi out
+  pub sought-is : (lo hi : Float) (m : Optimum) (out : List Float) (r : Fit × List Float) → m ≡ optimizeBandwidth u d lo hi → r ≡ finalOf u d (m .bandwidth) (m .solves) out → r ≡ soughtOf u d lo hi out
   unfolding soughtOf
-  sought-is lo hi m out r hm hr = hr ∙ ap (λ (t : Optimum). foundOf u d t out) hm
+  sought-is lo hi m out r hm hr = hr ∙ ap (λ (t : Optimum). finalOf u d (t .bandwidth) (t .solves) out) hm
 
 -- the fit, by what is said of its input, and by its plan
 module _ (d : Data) (p : ℕ) (o : GwrOptions) (out : List Float) where

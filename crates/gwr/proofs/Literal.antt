@@ -28,7 +28,6 @@ use Rattle.search.specs.Trial.{trialOf}
 use Rattle.search.specs.Search.{goldenOf, optimizeBandwidth}
 use Rattle.search.specs.Literal.{goldenSectionMin}
 use Rattle.search.proofs.Literal.{golden-literal}
-use Rattle.gwr.specs.declared.Fit.{Fit}
 use Rattle.gwr.specs.Fit.{finalOf, soughtOf, answered, gwrFit}
 
 -- A search that is accepted has lo below hi, so that 000's `if a >= b` does not hold

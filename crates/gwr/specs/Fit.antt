@@ -17,9 +17,7 @@ use Rattle.plan.specs.Plan.{acceptOf}
 use Rattle.sweep.specs.declared.Swept.{Swept}
 use Rattle.sweep.specs.Sweep.{fitAllLocations, solvesOf, endingOf}
 use Rattle.sweep.specs.Finish.{finishOf}
-use Rattle.search.specs.declared.Optimum.{Optimum}
 use Rattle.search.specs.Search.{optimizeBandwidth}
-use Rattle.gwr.specs.declared.FitAnswer.{FitAnswer}
 use Rattle.gwr.specs.declared.FitAnswer.the-variants.{Done, Rejected}
 use Rattle.gwr.specs.declared.Fit.{Fit}
 
@@ -33,13 +31,11 @@ finalOf u d b before out =
     let s = fitAllLocations true u d b out in
     (fitFrom u b before (s .0), s .1)
 
--- 01: the final fit is at the bandwidth that the search finds
-abbrev pub foundOf : Setup → Data → Optimum → List Float → Fit × List Float
-foundOf u d m out = finalOf u d (m .bandwidth) (m .solves) out
-
--- a job whose bandwidth is sought from lo to hi
+-- 01: the final fit is at the bandwidth that the search from lo to hi finds
 unfoldable pub soughtOf : Setup → Data → Float → Float → List Float → Fit × List Float
-soughtOf u d lo hi out = foundOf u d (optimizeBandwidth u d lo hi) out
+soughtOf u d lo hi out =
+    let m = optimizeBandwidth u d lo hi in
+    finalOf u d (m .bandwidth) (m .solves) out
 
 -- an accepted job's fit, by its plan
 abbrev pub planned : Plan → Setup → Data → List Float → Fit × List Float

@@ -45,7 +45,9 @@ fn final_of(
 {
     let s = sweep::fit_all_locations(coords, x, y, u, b, true, out);
     let reached = s.sweep;
-    let finish = sweep::finish_of(s.ending(u), b, before + s.solves());
+    let ending = s.ending(u);
+    let solves = s.solves();
+    let finish = sweep::finish_of(ending, b, before + solves);
     Fit {
         answer: FitAnswer::Done(finish),
         rows: reached.location,

@@ -1,4 +1,3 @@
 pub mod Copies
 pub mod Lengths
 pub mod Rows
-pub mod NormalEquations

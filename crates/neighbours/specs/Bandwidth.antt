@@ -6,7 +6,7 @@ use Rattle.setup.specs.declared.GwrBandwidth.{GwrBandwidth}
 use Rattle.setup.specs.declared.GwrBandwidth.the-variants.{Fixed, AdaptiveKnn}
 use Rattle.neighbours.specs.Walk.{nearestOf}
 
--- the bandwidth of location i among n pantries: the distance itself, or the k-th smallest distance to the others
-abbrev pub bandwidthOf : List Float → ℕ → ℕ → GwrBandwidth → Float
-bandwidthOf coords n i (Fixed b) = b
-bandwidthOf coords n i (AdaptiveKnn k) = nearestOf coords n i k
+-- 000's `local_bandwidth_distance`: the distance itself, or the k-th smallest distance to the others of n pantries
+abbrev pub localBandwidthDistance : List Float → ℕ → ℕ → GwrBandwidth → Float
+localBandwidthDistance coords n i (Fixed b) = b
+localBandwidthDistance coords n i (AdaptiveKnn k) = nearestOf coords n i k

@@ -1,7 +1,7 @@
 -- What an accepted input is like, and that a plan's bandwidth can be used.
-use mathlib.Core.Path.{_≡_, refl, sym, ap, subst, subst⁻¹, _∙_}
+use mathlib.Core.Path.{_≡_, refl, sym, subst⁻¹, _∙_}
 use mathlib.Core.Bool.{Bool, true, false, cond}
-use mathlib.Core.List.{List, _++_}
+use mathlib.Core.List.{List}
 use mathlib.Core.Logic.{inl, inr}
 use Prim.Native.Nat.{ℕ, _+_, _*_, _/_, _%_, _≤_}
 use native.Mathlib.Omega.{arith}
@@ -12,6 +12,7 @@ use lib.Ieee.{Float, le}
 use Rattle.real.specs.Finite.{allFinite}
 use Rattle.real.specs.Reals.{roundInto}
 use Rattle.refusal.specs.declared.Refusal.{Refusal}
+use Rattle.refusal.specs.declared.Refusal.the-variants.{OddCoordinates, TooManyObservations, TooManyPredictors, PredictorLength, ResponseLength, TooFewObservations, ResponseNotFinite, CoordinateNotFinite, PredictorNotFinite, OutputTooShort}
 use Rattle.setup.specs.declared.GwrBandwidth.{GwrBandwidth}
 use Rattle.setup.specs.declared.GwrBandwidth.the-variants.{Fixed, AdaptiveKnn}
 use Rattle.setup.specs.declared.GwrOptions.{GwrOptions}
@@ -19,16 +20,17 @@ use Rattle.setup.specs.declared.Setup.{Setup}
 use Rattle.setup.specs.Bandwidth.{Usable}
 use Rattle.setup.specs.Data.{Data}
 use Rattle.setup.specs.Shape.{setupOf, Sized, Shaped}
-use Rattle.neighbours.specs.Count.{resolvedCount}
+use Rattle.counts.specs.Count.{resolveCount}
 use Rattle.checks.specs.declared.Check.the-variants as check
 use Rattle.checks.specs.Judge.{judge, ruled, NoneOf, Decides}
-use Rattle.checks.proofs.Judge.{judge-append, ruled-append, ruled-refused, ruled-pass, none-head, none-append, decided, decides}
+use Rattle.checks.proofs.Judge.{ruled-append, here, later, none-among, none-append, decided, decides}
+use Rattle.checks.proofs.Tests.{refused-so, given-so}
 use Rattle.plan.specs.declared.Plan.{Plan}
 use Rattle.plan.specs.declared.Plan.the-variants.{Settled, Sought}
 use Rattle.plan.specs.declared.Acceptance.{Acceptance}
 use Rattle.plan.specs.declared.Acceptance.the-variants.{Refused, Planned}
 use Rattle.plan.specs.Bounds.{greatestDistance, leastDistance, leastCount, greatestCount, pointOf, bandwidthAt}
-use Rattle.plan.specs.Checks.{shapeTests, valueTests, outputTests, inputTests, seeksDistance, unusableGiven, nothingBetween, optionTestsAt, optionTests, fitTests}
+use Rattle.plan.specs.Checks.{shapeTests, valueTests, outputTests, inputTests, seeksDistance, nothingBetween, optionTestsAt, optionTests, fitTests}
 use Rattle.plan.specs.Plan.{resolveInitialBandwidth, distancePlan, countPlan, searchPlan, planAt, planOf, planOptionsAt, planOptions, acceptOf}
 
 -- ---- lengths, values and room
@@ -46,21 +48,14 @@ module _ (coords x y p : ℕ) where
   pub shape-counts : NoneOf (shapeTests coords x y p) → Counts
   unfolding shapeTests
   shape-counts h =
-      let t1 = none-head _ _ _ h in
-      let t2 = none-head _ _ _ (t1 .1) in
-      let t3 = none-head _ _ _ (t2 .1) in
-      let t4 = none-head _ _ _ (t3 .1) in
-      let t5 = none-head _ _ _ (t4 .1) in
-      let t6 = none-head _ _ _ (t5 .1) in
-      let t7 = none-head _ _ _ (t6 .1) in
-      let odd : coords % 2 ≡ 1 → ⊥ = eqb-false _ _ (t2 .0) in
+      let odd : coords % 2 ≡ 1 → ⊥ = eqb-false _ _ (none-among OddCoordinates h (search (here, later) depth 20)) in
       record {
         even = omega arith;
-        few = ltb-false _ _ (t3 .0);
-        narrow = ltb-false _ _ (t4 .0);
-        rows = eqb-true _ _ (not-false _ (t5 .0));
-        answers = eqb-true _ _ (not-false _ (t6 .0));
-        enough = ltb-false _ _ (t7 .0);
+        few = ltb-false _ _ (none-among TooManyObservations h (search (here, later) depth 20));
+        narrow = ltb-false _ _ (none-among TooManyPredictors h (search (here, later) depth 20));
+        rows = eqb-true _ _ (not-false _ (none-among PredictorLength h (search (here, later) depth 20)));
+        answers = eqb-true _ _ (not-false _ (none-among ResponseLength h (search (here, later) depth 20)));
+        enough = ltb-false _ _ (none-among TooFewObservations h (search (here, later) depth 20));
       }
 
 -- what 1 to 10 and 13 leave of an input
@@ -75,30 +70,16 @@ module _ (d : Data) (p out : ℕ) where
   abbrev shape : List (Bool × Refusal)
   shape = shapeTests (length (d .coords)) (length (d .predictors)) (length (d .responses)) p
 
-  abbrev output : List (Bool × Refusal)
-  output = outputTests (length (d .coords) / 2) p out
-
-  -- the three lists one after the other
-  pub input-is : judge (inputTests d p out) ≡ ruled (judge shape) check.Refused (ruled (judge (valueTests d)) check.Refused (judge output))
-  unfolding inputTests
-  input-is = judge-append shape (valueTests d ++ output) ∙ ap (ruled (judge shape) check.Refused) (judge-append (valueTests d) output)
-
   pub input-accepted : (o : GwrOptions) → NoneOf (inputTests d p out) → Accepted d p o out
-  unfolding inputTests valueTests outputTests
+  unfolding inputTests shapeTests valueTests outputTests
   input-accepted o h =
-      let a = none-append shape (valueTests d ++ output) h in
-      let b = none-append (valueTests d) output (a .1) in
-      let v1 = none-head _ _ _ (b .0) in
-      let v2 = none-head _ _ _ (v1 .1) in
-      let v3 = none-head _ _ _ (v2 .1) in
-      let r = none-head _ _ _ (b .1) in
-      let k = shape-counts _ _ _ _ (a .0) in
+      let k = shape-counts _ _ _ _ (none-append shape _ h .0) in
       record {
         shaped = record { sized = record { few = k .few; narrow = k .narrow; enough = k .enough }; places = k .even; rows = k .rows; answers = k .answers };
-        responses-finite = not-false _ (v1 .0);
-        places-finite = not-false _ (v2 .0);
-        rows-finite = not-false _ (v3 .0);
-        room = ltb-false _ _ (r .0);
+        responses-finite = not-false _ (none-among ResponseNotFinite h (search (here, later) depth 20));
+        places-finite = not-false _ (none-among CoordinateNotFinite h (search (here, later) depth 20));
+        rows-finite = not-false _ (none-among PredictorNotFinite h (search (here, later) depth 20));
+        room = ltb-false _ _ (none-among OutputTooShort h (search (here, later) depth 20));
       }
 
 -- ---- options
@@ -144,7 +125,7 @@ module _ (u : Setup) (s : Sized u) where
       go (AdaptiveKnn k) = record { some = omega (arith, s .few, s .narrow); few = omega (arith, s .few, s .narrow) }
 
   given-serves : (w : GwrBandwidth) → Usable (resolveInitialBandwidth w (u .n))
-  unfolding resolveInitialBandwidth resolvedCount
+  unfolding resolveInitialBandwidth resolveCount
   given-serves (Fixed b) = tt
   given-serves (AdaptiveKnn k) = record { some = omega arith; few = omega (arith, s .few) }
 
@@ -160,7 +141,7 @@ module _ (u : Setup) (s : Sized u) where
 -- ---- an input that is accepted
 
 -- q is the plan of an input that no test refuses
-pub record Planned-as (d : Data) (p : ℕ) (o : GwrOptions) (out : ℕ) (q : Plan) : Type 0 where
+pub record PlannedAs (d : Data) (p : ℕ) (o : GwrOptions) (out : ℕ) (q : Plan) : Type 0 where
   pub passed : NoneOf (fitTests d p o out)
   pub accepted : Accepted d p o out
   pub is : q ≡ planOf (setupOf d p o) d
@@ -181,17 +162,23 @@ module _ (d : Data) (p : ℕ) (o : GwrOptions) (out : ℕ) where
   unfolding acceptOf planOptionsAt
   accept-is = ruled-append Refused (Planned (planOf u d)) (inputTests d p out) (optionTests u d)
 
+  pub accept-refused : {r : Refusal} → judge (inputTests d p out) ≡ check.Refused r → Refused r ≡ acceptOf d p o out
+  accept-refused e = refused-so Refused (planOptions u d) e ∙ sym accept-is
+
+  pub accept-passed : {a : Acceptance} → NoneOf (inputTests d p out) → a ≡ planOptions u d → a ≡ acceptOf d p o out
+  accept-passed e f = given-so Refused (planOptions u d) e f ∙ sym accept-is
+
   -- which inputs are refused, and what the others are given
   pub accept-decides : Decides (fitTests d p o out) (λ (r : Refusal). acceptOf d p o out ≡ Refused r) (acceptOf d p o out ≡ Planned (planOf u d))
   unfolding acceptOf
   accept-decides = decides (fitTests d p o out) refl
 
-  pub accept-planned : {q : Plan} → acceptOf d p o out ≡ Planned q → Planned-as d p o out q
+  pub accept-planned : {q : Plan} → acceptOf d p o out ≡ Planned q → PlannedAs d p o out q
   accept-planned {q} e =
       elim (decided (fitTests d p o out)) [
-        inl f ↦ refused-planned (sym (accept-decides .refused (f .0) (f .1)) ∙ e)
-      | inr n ↦
-          let a = input-accepted d p out o (none-append (inputTests d p out) (optionTests u d) n .0) in
-          let i : q ≡ planOf u d = planned-one (sym e ∙ accept-decides .served n) in
-          record { passed = n; accepted = a; is = i; serves = subst⁻¹ Serves i (plan-serves u (a .shaped .sized) (greatestDistance (d .coords) (u .n))) }
+        | inl f ↦ refused-planned (sym (accept-decides .refused (f .0) (f .1)) ∙ e)
+        | inr n ↦
+            let a = input-accepted d p out o (none-append (inputTests d p out) (optionTests u d) n .0) in
+            let i : q ≡ planOf u d = planned-one (sym e ∙ accept-decides .served n) in
+            record { passed = n; accepted = a; is = i; serves = subst⁻¹ Serves i (plan-serves u (a .shaped .sized) (greatestDistance (d .coords) (u .n))) }
       ]

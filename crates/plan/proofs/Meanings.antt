@@ -1,18 +1,16 @@
 -- What each test of the lists asks, in plain mathematics: one law for each refusal, named after it.
-use mathlib.Core.Path.{_≡_, refl, sym, subst, subst⁻¹, _∙_}
+use mathlib.Core.Path.{_≡_, refl, sym, subst, subst⁻¹}
 use mathlib.Core.Bool.{Bool, true, false, not, _&&_, _||_, true≢false}
 use mathlib.Core.List.{List, [], _∷_}
 use mathlib.Core.Logic.{_⊎_, inl, inr}
-use Prim.Native.Nat.{ℕ, _+_, _*_, _/_, _%_, _≤_, _<_}
-use native.Mathlib.Omega.{arith}
+use Prim.Native.Nat.{ℕ, _+_, _*_, _/_, _%_, _<_}
 use lib.Dec.{T, eqb, ltb}
 use lib.ListN.{length}
 use lib.Ieee.{Float, nan, inf, fin, lt, le, eq, isNan, ofBits}
 use lib.Ieee.Scale.{finite}
 use Rattle.real.specs.Finite.{allFinite}
-use Rattle.real.specs.Reals.{greater, zero64}
-use Rattle.real.proofs.Fold.{kept}
-use Rattle.real.proofs.SignedOrder.{apart, nlt→le, le-tr, lt→le}
+use Rattle.real.specs.Reals.{zero64}
+use Rattle.real.proofs.SignedOrder.{apart, nlt→le}
 use Rattle.setup.specs.declared.GwrBandwidth.{GwrBandwidth}
 use Rattle.setup.specs.declared.GwrBandwidth.the-variants.{Fixed, AdaptiveKnn}
 use Rattle.setup.specs.declared.GwrOptions.{GwrOptions}
@@ -20,8 +18,8 @@ use Rattle.setup.specs.declared.Setup.{Setup}
 use Rattle.setup.specs.Data.{Data}
 use Rattle.setup.specs.Shape.{Sized, Shaped}
 use Rattle.checks.specs.Judge.{Means}
-use Rattle.checks.proofs.Means.{fails, true-means, never-means, not-means, and-means, or-means, equal-means, differ-means, below-means}
-use Rattle.plan.specs.Bounds.{fartherPair, fartherFrom, greatestDistance, usableDistance}
+use Rattle.checks.proofs.Means.{never-means, not-means, and-means, equal-means, differ-means, below-means}
+use Rattle.plan.specs.Bounds.{greatestDistance, usableDistance}
 use Rattle.plan.specs.Checks.{lengthsFit, unusableGiven, seeksDistance, nothingBetween}
 use Rattle.plan.specs.Conditions.{SomeNotFinite, UnusableGiven, NothingBetween}
 use Rattle.plan.proofs.Above.{Above, greatest-above}
@@ -52,10 +50,10 @@ module _ (coords x y p : ℕ) where
 
 -- ---- 8 to 10
 
-finite-means : (l : List Float) → Means (not (allFinite l)) (SomeNotFinite l)
+pub not-finite-means : (l : List Float) → Means (not (allFinite l)) (SomeNotFinite l)
 unfolding allFinite
-finite-means [] = never-means
-finite-means (v ∷ l) = go (finite v) refl (finite-means l)
+not-finite-means [] = never-means
+not-finite-means (v ∷ l) = go (finite v) refl (not-finite-means l)
   where
     go : (b : Bool) → finite v ≡ b → Means (not (allFinite l)) (SomeNotFinite l) → Means (not (b && allFinite l)) (T (not (finite v)) ⊎ SomeNotFinite l)
     go true f m = (λ e. inr (m .0 e), λ h. elim h [ inl k ↦ absurd (subst (λ (z : Bool). T (not z)) f k) | inr k ↦ m .1 k ])
@@ -63,13 +61,13 @@ finite-means (v ∷ l) = go (finite v) refl (finite-means l)
 
 module _ (d : Data) where
   pub response-not-finite-means : Means (not (allFinite (d .responses))) (SomeNotFinite (d .responses))
-  response-not-finite-means = finite-means (d .responses)
+  response-not-finite-means = not-finite-means (d .responses)
 
   pub coordinate-not-finite-means : Means (not (allFinite (d .coords))) (SomeNotFinite (d .coords))
-  coordinate-not-finite-means = finite-means (d .coords)
+  coordinate-not-finite-means = not-finite-means (d .coords)
 
   pub predictor-not-finite-means : Means (not (allFinite (d .predictors))) (SomeNotFinite (d .predictors))
-  predictor-not-finite-means = finite-means (d .predictors)
+  predictor-not-finite-means = not-finite-means (d .predictors)
 
 -- ---- 13
 

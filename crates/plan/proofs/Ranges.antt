@@ -1,8 +1,8 @@
 -- What a search is given: lo and hi are finite numbers of binary64, 0 ≤ lo ≤ hi.
 use mathlib.Core.Path.{_≡_, refl, sym, subst, subst⁻¹, _∙_}
-use mathlib.Core.Bool.{Bool, true, false, cond, not, _&&_, true≢false}
+use mathlib.Core.Bool.{Bool, true, false, cond, not, true≢false}
 use mathlib.Core.Logic.{_⊎_, inl, inr}
-use Prim.Native.Nat.{ℕ, _+_, _*_, _^_, _≤_, _<_}
+use Prim.Native.Nat.{ℕ, _*_, _^_, _≤_, _<_}
 use native.Mathlib.Nat.{le-trans, mul-one, mul-pos}
 use native.Mathlib.Omega.{arith}
 use borrow.Author.Tests.{not-false}
@@ -14,20 +14,20 @@ use lib.Ieee.Exact.{HasValue}
 use lib.Ieee.Fits.{cond-fits, div-fits, mul-fits, ofInt-fits, down-pos, and-l, and-r}
 use lib.Ieee.Scale.{finite}
 use lib.Ieee.Positive.{num}
-use Rattle.real.specs.Reals.{greater, lesser, zero64}
+use Rattle.real.specs.Reals.{greater, lesser, zero64, fromCount}
 use Rattle.real.proofs.SignedOrder.{natural, nat-fin, nat-above, in-fin, le-total, lt→le, round-smono, div-smono, zero-over}
+use Rattle.refusal.specs.declared.Refusal.the-variants.{NoDistanceRange}
 use Rattle.setup.specs.declared.GwrBandwidth.{GwrBandwidth}
 use Rattle.setup.specs.declared.GwrBandwidth.the-variants.{Fixed, AdaptiveKnn}
 use Rattle.setup.specs.declared.GwrOptions.{GwrOptions}
 use Rattle.setup.specs.declared.Setup.{Setup}
 use Rattle.setup.specs.Data.{Data}
 use Rattle.setup.specs.Shape.{setupOf, Sized}
-use Rattle.checks.specs.Judge.{NoneOf}
-use Rattle.checks.proofs.Judge.{none-head, none-append}
+use Rattle.checks.proofs.Judge.{here, later, none-among, none-append}
 use Rattle.plan.specs.declared.Plan.{Plan}
 use Rattle.plan.specs.declared.Plan.the-variants.{Settled, Sought}
 use Rattle.plan.specs.declared.Acceptance.the-variants.{Planned}
-use Rattle.plan.specs.Bounds.{realOf, greatestDistance, leastDistance, usableDistance, leastCount, greatestCount}
+use Rattle.plan.specs.Bounds.{greatestDistance, leastDistance, usableDistance, leastCount, greatestCount}
 use Rattle.plan.specs.Checks.{inputTests, seeksDistance, nothingBetween, optionTestsAt, optionTests}
 use Rattle.plan.specs.Plan.{distancePlan, countPlan, searchPlan, planAt, acceptOf}
 use Rattle.plan.proofs.Above.{Above, greater-above}
@@ -46,11 +46,11 @@ whole-natural (inf s) n h = absurd h
 whole-natural (fin true m e) n h = absurd (true≢false (h .0))
 whole-natural (fin false m e) n h = (tt, λ k. subst (λ (z : ℕ). 0 < z) (sym (sym (mul-one (m * up e)) ∙ h .1)) (mul-pos k (down-pos e)))
 
-count-natural : (n : ℕ) → n ≤ 512 → T (natural (realOf n)) × (0 < n → 0 < num (realOf n))
+count-natural : (n : ℕ) → n ≤ 512 → T (natural (fromCount n)) × (0 < n → 0 < num (fromCount n))
 unfolding ofInt
-count-natural n h = whole-natural (realOf n) n (round-whole binary64 false n (le-trans h (lit≤ {m = 512} {n = 2 ^ 53} tt)))
+count-natural n h = whole-natural (fromCount n) n (round-whole binary64 false n (le-trans h (lit≤ {m = 512} {n = 2 ^ 53} tt)))
 
-count-order : (m n : ℕ) → m ≤ n → T (le (realOf m) (realOf n))
+count-order : (m n : ℕ) → m ≤ n → T (le (fromCount m) (fromCount n))
 unfolding ofInt
 count-order m n h = round-smono binary64 false false m 1 n 1 (lit< tt) (lit< tt) (omega arith)
 
@@ -65,7 +65,7 @@ pub record Ranged (lo hi : Float) : Type 0 where
 
 module _ (hi : Float) (n : ℕ) (held : T (fits binary64 hi)) (some : 1 ≤ n) (few : n ≤ 512) where
   abbrev part : Float
-  part = div binary64 hi (realOf n)
+  part = div binary64 hi (fromCount n)
 
   abbrev share : Float
   share = mul binary64 hi (ofBits binary64 0x3F50_624D_D2F1_A9FC)
@@ -74,7 +74,7 @@ module _ (hi : Float) (n : ℕ) (held : T (fits binary64 hi)) (some : 1 ≤ n) (
   unfolding leastDistance lesser greater
   least-held =
       cond-fits binary64 (lt hi (greater part share)) hi (greater part share) held
-      (cond-fits binary64 (lt part share) share part (mul-fits binary64 hi (ofBits binary64 0x3F50_624D_D2F1_A9FC)) (div-fits binary64 hi (realOf n)))
+      (cond-fits binary64 (lt part share) share part (mul-fits binary64 hi (ofBits binary64 0x3F50_624D_D2F1_A9FC)) (div-fits binary64 hi (fromCount n)))
 
   least-above : T (finite hi) → Above hi → Above (leastDistance hi n)
   unfolding leastDistance lesser ofBits
@@ -83,7 +83,7 @@ module _ (hi : Float) (n : ℕ) (held : T (fits binary64 hi)) (some : 1 ≤ n) (
       part-above : Above part
       part-above =
           let r = count-natural n few in
-          subst (λ (z : Float). T (le z part)) (zero-over binary64 (realOf n) (r .0) (r .1 some)) (div-smono binary64 (fin false 0 (pos 0)) hi (realOf n) tt f (r .0) (r .1 some) h)
+          subst (λ (z : Float). T (le z part)) (zero-over binary64 (fromCount n) (r .0) (r .1 some)) (div-smono binary64 (fin false 0 (pos 0)) hi (fromCount n) tt f (r .0) (r .1 some) h)
 
       go : (t : Bool) → Above (cond t hi (greater part share))
       go true = h
@@ -103,16 +103,16 @@ module _ (hi : Float) (n : ℕ) (held : T (fits binary64 hi)) (some : 1 ≤ n) (
       go (inl k) = k
       go (inr k) = absurd (subst T e k)
 
-count-ranged : (m n : ℕ) → m ≤ n → n ≤ 512 → Ranged (realOf m) (realOf n)
+count-ranged : (m n : ℕ) → m ≤ n → n ≤ 512 → Ranged (fromCount m) (fromCount n)
 unfolding ofBits
 count-ranged m n h few =
     let r = count-natural m (omega arith) .0 in
     record {
       low-held = ofInt-fits binary64 (pos m);
       high-held = ofInt-fits binary64 (pos n);
-      low-finite = nat-fin (realOf m) r;
-      high-finite = nat-fin (realOf n) (count-natural n few .0);
-      from-zero = nat-above (realOf m) r;
+      low-finite = nat-fin (fromCount m) r;
+      high-finite = nat-fin (fromCount n) (count-natural n few .0);
+      from-zero = nat-above (fromCount m) r;
       order = count-order m n h;
     }
 
@@ -148,5 +148,4 @@ sought-ranged d p o out held e =
     let u = setupOf d p o in
     let q = accept-planned d p o out e in
     let t = none-append (inputTests d p out) (optionTests u d) (q .passed) .1 in
-    let r = none-head _ _ _ (none-head _ _ _ t .1) .0 in
-    subst⁻¹ Within (q .is) (plan-within u (q .accepted .shaped .sized) (greatestDistance (d .coords) (u .n)) held r)
+    subst⁻¹ Within (q .is) (plan-within u (q .accepted .shaped .sized) (greatestDistance (d .coords) (u .n)) held (none-among NoDistanceRange t (search (here, later))))

@@ -2,20 +2,15 @@
 use Prim.Native.Nat.{ℕ, _+_, _*_, _-_, max}
 use mathlib.Core.Bool.{Bool, _&&_}
 use mathlib.Core.List.{List}
-use lib.IntN.{pos}
 use lib.ListN.{getD}
-use lib.Ieee.{Float, nan, binary64, mul, div, lt, ofBits, ofInt}
+use lib.Ieee.{Float, nan, binary64, mul, div, lt, ofBits}
 use lib.Ieee.Scale.{finite}
 use Rattle.real.specs.Fold.{range}
-use Rattle.real.specs.Reals.{greater, lesser, roundInto, zero64}
+use Rattle.real.specs.Reals.{greater, lesser, roundInto, zero64, fromCount}
 use Rattle.kernel.specs.Weight.{distanceOf}
 use Rattle.setup.specs.declared.GwrBandwidth.{GwrBandwidth}
 use Rattle.setup.specs.declared.GwrBandwidth.the-variants.{Fixed, AdaptiveKnn}
 use Rattle.setup.specs.declared.Setup.{Setup}
-
--- n as a real
-abbrev pub realOf : ℕ → Float
-realOf n = ofInt binary64 (pos n)
 
 -- ---- a searched distance
 
@@ -34,7 +29,7 @@ greatestDistance coords n = range (fartherFrom coords n) 0 n zero64
 
 -- 01's lo: the larger of hi/n and hi·1e-3, but not above hi
 unfoldable pub leastDistance : Float → ℕ → Float
-leastDistance hi n = lesser (greater (div binary64 hi (realOf n)) (mul binary64 hi (ofBits binary64 0x3F50_624D_D2F1_A9FC))) hi
+leastDistance hi n = lesser (greater (div binary64 hi (fromCount n)) (mul binary64 hi (ofBits binary64 0x3F50_624D_D2F1_A9FC))) hi
 
 -- what neither 11 nor 12 refuses: a distance that is finite and above 0
 unfoldable pub usableDistance : Float → Bool

@@ -3,27 +3,27 @@ use Prim.Native.Nat.{ℕ}
 use mathlib.Core.Bool.{cond}
 use lib.Dec.{leb}
 use lib.Ieee.{Float, le}
-use Rattle.refusal.specs.declared.Refusal.{Refusal}
+use Rattle.real.specs.Reals.{fromCount}
 use Rattle.setup.specs.declared.GwrBandwidth.{GwrBandwidth}
 use Rattle.setup.specs.declared.GwrBandwidth.the-variants.{Fixed, AdaptiveKnn}
 use Rattle.setup.specs.declared.GwrOptions.{GwrOptions}
 use Rattle.setup.specs.declared.Setup.{Setup}
 use Rattle.setup.specs.Data.{Data}
 use Rattle.setup.specs.Shape.{setupOf}
-use Rattle.neighbours.specs.Count.{resolvedCount}
+use Rattle.counts.specs.Count.{resolveCount}
 use Rattle.checks.specs.declared.Check.{Check}
 use Rattle.checks.specs.Judge.{judge, ruled}
 use Rattle.plan.specs.declared.Plan.{Plan}
 use Rattle.plan.specs.declared.Plan.the-variants.{Settled, Sought}
 use Rattle.plan.specs.declared.Acceptance.{Acceptance}
 use Rattle.plan.specs.declared.Acceptance.the-variants.{Refused, Planned}
-use Rattle.plan.specs.Bounds.{realOf, greatestDistance, leastDistance, leastCount, greatestCount}
+use Rattle.plan.specs.Bounds.{greatestDistance, leastDistance, leastCount, greatestCount}
 use Rattle.plan.specs.Checks.{optionTestsAt, fitTests}
 
 -- 000's `resolve_initial_bandwidth`: the distance given, or the count, after capping and raising
 unfoldable pub resolveInitialBandwidth : GwrBandwidth → ℕ → GwrBandwidth
 resolveInitialBandwidth (Fixed b) n = Fixed b
-resolveInitialBandwidth (AdaptiveKnn k) n = AdaptiveKnn (resolvedCount k n)
+resolveInitialBandwidth (AdaptiveKnn k) n = AdaptiveKnn (resolveCount k n)
 
 -- 01: if lo ≥ hi the answer is lo with no trial
 unfoldable pub distancePlan : Float → Float → Plan
@@ -33,7 +33,7 @@ distancePlan lo hi = cond (le hi lo) (Settled (Fixed lo)) (Sought lo hi)
 unfoldable pub countPlan : ℕ → ℕ → Plan
 countPlan n p =
     cond (leb (greatestCount n p) (leastCount p)) (Settled (AdaptiveKnn (leastCount p)))
-    (Sought (realOf (leastCount p)) (realOf (greatestCount n p)))
+    (Sought (fromCount (leastCount p)) (fromCount (greatestCount n p)))
 
 -- 01: searching ignores the value given in the options and uses only its kind
 unfoldable pub searchPlan : GwrBandwidth → Float → ℕ → ℕ → Plan

@@ -8,7 +8,7 @@ use setup::GwrBandwidth;
 use setup::Setup;
 
 // The greatest distance from pantry i to those after it, and `before`.
-fn greatest_from(coords: &[f64], n: usize, i: usize, before: f64) -> f64
+fn farther_from(coords: &[f64], n: usize, i: usize, before: f64) -> f64
     requires { ⌜ (length (now coords) ≡ 2 * n) × (i < n) × (n ≤ 512) ⌝ }
     ensures { λ r. ⌜ r ≡ fartherFrom (now (coords .entry)) n i before ⌝ }
 {
@@ -32,7 +32,7 @@ pub fn greatest_distance(coords: &[f64], n: usize) -> f64
 {
     let mut most = 0.0;
     for i in 0..n {
-        most = greatest_from(coords, n, i, most);
+        most = farther_from(coords, n, i, most);
     }
     most
 }
@@ -61,7 +61,7 @@ pub fn least_count(p: usize) -> usize
     requires { ⌜ p ≤ 7 ⌝ }
     ensures { λ r. ⌜ r ≡ leastCount p ⌝ }
 {
-    neighbours::max_count(p + 1, 2)
+    real::max_count(p + 1, 2)
 }
 
 // The greatest count that a search tries: max(n - 1, L).
@@ -70,7 +70,7 @@ pub fn greatest_count(n: usize, p: usize) -> usize
     ensures { λ r. ⌜ r ≡ greatestCount n p ⌝ }
 {
     let least = least_count(p);
-    neighbours::max_count(n - 1, least)
+    real::max_count(n - 1, least)
 }
 
 // The bandwidth at a point of the search, of the options' kind.

@@ -7,12 +7,12 @@ ghost use Rattle.setup.specs.Data.{dataOf};
 ghost use Rattle.setup.specs.Shape.{Sized};
 ghost use Rattle.checks.specs.Judge.{judge};
 ghost use Rattle.plan.specs.Checks.{shapeTests, valueTests, outputTests, roomTests, inputTests, lengthsFit, unusableGiven, seeksDistance, nothingBetween, optionTestsAt};
+use super::bounds::usable_distance;
 use checks::Check;
 use refusal::Refusal;
 use setup::GwrBandwidth;
 use setup::GwrOptions;
 use setup::Setup;
-use super::bounds::usable_distance;
 
 // Refusals 1 to 7: the lengths of the slices and the number of predictors.
 fn check_shape(coords: usize, x: usize, y: usize, p: usize) -> Check

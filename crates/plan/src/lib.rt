@@ -3,9 +3,6 @@ mod bounds; // between which bandwidths a search goes
 mod checking; // the lists of tests
 mod planning; // what the options ask for, and the whole
 
-use refusal::Refusal;
-use setup::GwrBandwidth;
-
 pub use bounds::bandwidth_at;
 pub use checking::check_input;
 pub use checking::check_room;
@@ -13,6 +10,8 @@ pub use checking::check_values;
 pub use checking::lengths_fit;
 pub use planning::accept;
 pub use planning::plan_options;
+use refusal::Refusal;
+use setup::GwrBandwidth;
 
 // What an accepted job does: it fits at a bandwidth, or seeks one from lo to hi first.
 pub enum Plan {

@@ -6,10 +6,6 @@ ghost use Rattle.setup.specs.Data.{dataOf};
 ghost use Rattle.setup.specs.Shape.{Sized};
 ghost use Rattle.plan.specs.Bounds.{greatestDistance};
 ghost use Rattle.plan.specs.Plan.{resolveInitialBandwidth, distancePlan, countPlan, searchPlan, planAt, planOptionsAt, acceptOf};
-use checks::Check;
-use setup::GwrBandwidth;
-use setup::GwrOptions;
-use setup::Setup;
 use super::Acceptance;
 use super::Plan;
 use super::bounds::greatest_count;
@@ -19,6 +15,10 @@ use super::bounds::least_distance;
 use super::checking::check_input;
 use super::checking::check_options;
 use super::checking::seeks_distance;
+use checks::Check;
+use setup::GwrBandwidth;
+use setup::GwrOptions;
+use setup::Setup;
 
 // The bandwidth given, a count resolved.
 fn resolve_initial_bandwidth(bandwidth: GwrBandwidth, n: usize) -> GwrBandwidth
@@ -27,8 +27,7 @@ fn resolve_initial_bandwidth(bandwidth: GwrBandwidth, n: usize) -> GwrBandwidth
 {
     match bandwidth {
         GwrBandwidth::Fixed(b) => GwrBandwidth::Fixed(b),
-        GwrBandwidth::AdaptiveKnn(k) =>
-            GwrBandwidth::AdaptiveKnn(neighbours::resolve_count(k, n)),
+        GwrBandwidth::AdaptiveKnn(k) => GwrBandwidth::AdaptiveKnn(counts::resolve_count(k, n)),
     }
 }
 

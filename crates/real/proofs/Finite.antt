@@ -1,16 +1,28 @@
--- A walk over a list that asks whether its numbers are finite: what it has passed and what is left decide together.
-use mathlib.Core.Path.{_≡_, refl, sym, ap, _∙_}
+-- Lists of which every number is finite: each of them is; and the walk of `all_finite`, in which what is passed and what is left decide together.
+use mathlib.Core.Path.{_≡_, refl, sym, _∙_}
 use mathlib.Core.Bool.{Bool, true, false, _&&_}
-use mathlib.Core.List.{List}
-use Prim.Native.Nat.{ℕ, _+_, _≤_, _<_}
+use mathlib.Core.List.{List, [], _∷_}
+use Prim.Native.Nat.{ℕ, zero, suc, _+_, _≤_, _<_}
 use native.Mathlib.Numerals.{add-one}
+use native.Mathlib.Nat.{le-of-suc-le-suc, not-suc-le-zero}
 use native.Mathlib.Omega.{arith}
+use lib.Dec.{T}
 use lib.ListN.{length, drop, getD, drop-of-length-le}
 use lib.Seq.{drop-cons}
 use lib.Ieee.{Float, nan}
+use lib.Ieee.Fits.{and-l, and-r}
 use lib.Ieee.Scale.{finite}
 use Rattle.real.specs.Finite.{allFinite}
 
+pub at-finite : (l : List Float) (j : ℕ) → T (allFinite l) → j < length l → T (finite (getD l j nan))
+unfolding allFinite
+at-finite [] j h k = absurd (not-suc-le-zero k)
+at-finite (v ∷ vs) zero h k = and-l (finite v) (allFinite vs) h
+at-finite (v ∷ vs) (suc j) h k = at-finite vs j (and-r (finite v) (allFinite vs) h) (le-of-suc-le-suc k)
+
+-- ---- the walk
+
+-- the first i numbers of l are finite, if good
 pub record Passed (l : List Float) (i : ℕ) (good : Bool) : Type 0 where
   pub within : i ≤ length l
   pub is : allFinite l ≡ (good && allFinite (drop i l))

@@ -58,3 +58,20 @@ module _ {S T : Type 0} (f : ℕ → S → S) (g : ℕ → T → T) (a b : ℕ) 
   pub related : (s : S) (t : T) → a ≤ b → R s t → R (range f a b s) (range g a b t)
   unfolding range
   related s t h r = related-turns (b - a) s t (omega arith) r
+
+-- the fold stopped at b and taken up again from there is the unbroken fold
+module _ {S : Type 0} (f : ℕ → S → S) (s : S) where
+  turns-split : (a m n : ℕ) → turns f (a + m) n (turns f a m s) ≡ turns f a (m + n) s
+  unfolding turns
+  turns-split a m zero = let k : m + 0 ≡ m = omega arith in rw k
+  turns-split a m (suc n) =
+      let k : m + suc n ≡ suc (m + n) = omega arith in
+      let at : a + m + n ≡ a + (m + n) = omega arith in
+      rw (k, at) (ap (f (a + (m + n))) (turns-split a m n))
+
+  pub split : (a b c : ℕ) → a ≤ b → b ≤ c → range f b c (range f a b s) ≡ range f a c s
+  unfolding range
+  split a b c h k =
+      let at : b ≡ a + (b - a) = omega arith in
+      let all : b - a + (c - b) ≡ c - a = omega arith in
+      ap (λ (i : ℕ). turns f i (c - b) (turns f a (b - a) s)) at ∙ turns-split a (b - a) (c - b) ∙ ap (λ (i : ℕ). turns f a i s) all

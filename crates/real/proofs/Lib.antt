@@ -5,3 +5,4 @@ pub mod Rounding
 pub mod Toward
 pub mod RoundedOnce
 pub mod Finite
+pub mod Closed

@@ -2,3 +2,5 @@ pub mod Fold
 pub mod Reals
 pub mod Fractions
 pub mod Finite
+pub mod Arithmetic
+pub mod Matrix

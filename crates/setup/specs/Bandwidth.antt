@@ -1,7 +1,7 @@
 -- A bandwidth in use, and the number that stands for it. Definitions only.
 use Prim.Native.Nat.{ℕ, _≤_}
-use lib.IntN.{pos}
-use lib.Ieee.{Float, binary64, ofInt}
+use lib.Ieee.{Float}
+use Rattle.real.specs.Reals.{fromCount}
 use Rattle.setup.specs.declared.GwrBandwidth.{GwrBandwidth}
 use Rattle.setup.specs.declared.GwrBandwidth.the-variants.{Fixed, AdaptiveKnn}
 
@@ -18,4 +18,4 @@ Usable (AdaptiveKnn k) = Counted k
 -- the number that a summary reports: the distance, or the count as a real
 abbrev pub reportValue : GwrBandwidth → Float
 reportValue (Fixed b) = b
-reportValue (AdaptiveKnn k) = ofInt binary64 (pos k)
+reportValue (AdaptiveKnn k) = fromCount k

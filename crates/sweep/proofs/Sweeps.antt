@@ -1,11 +1,10 @@
 -- How far a sweep comes, and that rows leave it alone: laws of the definitions, by cases of the course and of the outcome.
 use mathlib.Core.Path.{_≡_, refl, sym, ap, subst, subst⁻¹, _∙_}
 use mathlib.Core.Bool.{Bool, true, false}
-use mathlib.Core.List.{List, []}
-use Prim.Native.Nat.{ℕ, zero, suc, _+_, _*_, _≤_, _<_}
+use mathlib.Core.List.{List}
+use Prim.Native.Nat.{ℕ, zero, suc, _+_, _≤_}
 use native.Mathlib.Nat.{sub-zero}
 use native.Mathlib.Omega.{arith}
-use lib.ListN.{length}
 use lib.Ieee.{Float}
 use Rattle.real.specs.Fold.{turns, range}
 use Rattle.real.proofs.Fold.{related}

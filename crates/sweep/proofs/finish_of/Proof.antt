@@ -1,6 +1,6 @@
 -- `sweep::finish_of`: by the ending.
 use borrow.Author.Needs.{needs}
-use mathlib.Core.Path.{sym, ap, _∙_}
+use mathlib.Core.Path.{sym}
 use Rattle.sweep.proofs.finish_of.Statement.{statement}
 use Rattle.sweep.proofs.finish_of.Tie as tie
 

@@ -16,8 +16,8 @@ abbrev μ-loop : tie.MeasureT-loop
 loop-holds : tie.Need-loop-holds Inv-loop μ-loop
 loop-holds c = none (search needs)
 
-greatest-from-requires : tie.Need-greatest-from-requires Inv-loop μ-loop
-greatest-from-requires c κs = search needs
+farther-from-requires : tie.Need-farther-from-requires Inv-loop μ-loop
+farther-from-requires c κs = search needs
 
 add-i : tie.Need-add-i Inv-loop μ-loop
 add-i c = search needs
@@ -26,7 +26,7 @@ loop-less : tie.Need-loop-less Inv-loop μ-loop
 loop-less c = search needs
 
 loop-again : tie.Need-loop-again Inv-loop μ-loop
-loop-again c = more (c .before .before .loop .inv) (search needs) (c .greatest-from .ensures)
+loop-again c = more (c .before .before .loop .inv) (search needs) (c .farther-from .ensures)
 
 returns : tie.Need-returns Inv-loop μ-loop
 unfolding greatestDistance
@@ -35,4 +35,4 @@ returns c = done (c .before .loop .inv) (search needs)
 pub greatest-distance-spec : {M : Type 1} → statement M
 greatest-distance-spec =
     tie.close
-    (tie.spec Inv-loop μ-loop loop-holds greatest-from-requires add-i loop-less loop-again returns)
+    (tie.spec Inv-loop μ-loop loop-holds farther-from-requires add-i loop-less loop-again returns)

@@ -1,9 +1,9 @@
 -- `plan::check_input` meets its contract: the three lists one after the other.
 use borrow.Author.Needs.{needs}
 use mathlib.Core.Path.{sym, _∙_}
-use Rattle.setup.specs.Data.{dataOf}
-use Rattle.checks.proofs.Judge.{ruled-refused, ruled-pass}
-use Rattle.plan.proofs.Accepted.{shape-counts, input-is}
+use Rattle.checks.proofs.Tests.{lists}
+use Rattle.plan.specs.Checks.{inputTests}
+use Rattle.plan.proofs.Accepted.{shape-counts}
 use Rattle.plan.proofs.checking.check_input.Statement.{statement}
 use Rattle.plan.proofs.checking.check_input.Tie as tie
 
@@ -29,17 +29,16 @@ check-output-requires : tie.Need-check-output-requires
 check-output-requires c κs = let s = shape-counts _ _ _ _ (sym (c .before .before .before .before .before .check-shape .ensures) ∙ c .before .before .before .enum-told .given .1) in (s .few, s .narrow)
 
 returns : tie.Need-returns
-returns c = sym (input-is (dataOf _ _ _) _ _ ∙ ruled-refused _ _ (sym (c .before .before .before .check-shape .ensures) ∙ c .before .shape .given .1))
+unfolding inputTests
+returns c = search lists
 
 returns-2 : tie.Need-returns-2
-returns-2 c = let shape = sym (c .before .before .before .before .before .before .check-shape .ensures) ∙ c .before .before .before .before .enum-told .given .1 in
-    let values = sym (c .before .before .before .check-values .ensures) ∙ c .before .values .given .1 in
-    sym (input-is (dataOf _ _ _) _ _ ∙ ruled-pass _ _ shape ∙ ruled-refused _ _ values)
+unfolding inputTests
+returns-2 c = search lists
 
 returns-3 : tie.Need-returns-3
-returns-3 c = let shape = sym (c .before .before .before .before .before .before .check-shape .ensures) ∙ c .before .before .before .before .enum-told .given .1 in
-    let values = sym (c .before .before .before .check-values .ensures) ∙ c .before .enum-told2 .given .1 in
-    c .check-output .ensures ∙ sym (input-is (dataOf _ _ _) _ _ ∙ ruled-pass _ _ shape ∙ ruled-pass _ _ values)
+unfolding inputTests
+returns-3 c = search lists
 
 pub check-input-spec : {M : Type 1} → statement M
 check-input-spec =

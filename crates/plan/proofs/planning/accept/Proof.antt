@@ -2,8 +2,8 @@
 use borrow.Author.Needs.{needs}
 use mathlib.Core.Path.{sym, _∙_}
 use Rattle.setup.specs.Data.{dataOf}
-use Rattle.checks.proofs.Judge.{ruled-refused, ruled-pass}
-use Rattle.plan.proofs.Accepted.{input-accepted, accept-is}
+use Rattle.checks.proofs.Tests.{read}
+use Rattle.plan.proofs.Accepted.{input-accepted, accept-refused, accept-passed}
 use Rattle.plan.proofs.planning.accept.Statement.{statement}
 use Rattle.plan.proofs.planning.accept.Tie as tie
 
@@ -20,10 +20,10 @@ plan-options-requires : tie.Need-plan-options-requires
 plan-options-requires c κs = let a = input-accepted (dataOf _ _ _) _ _ _ (sym (c .before .before .check-input .ensures) ∙ c .enum-told .given .1) .shaped in (a .places, a .sized)
 
 returns : tie.Need-returns
-returns c = sym (accept-is (dataOf _ _ _) _ _ _ ∙ ruled-refused _ _ (sym (c .before .before .before .check-input .ensures) ∙ c .before .input .given .1))
+returns c = search (accept-refused, read)
 
 returns-2 : tie.Need-returns-2
-returns-2 c = c .plan-options .ensures ∙ sym (accept-is (dataOf _ _ _) _ _ _ ∙ ruled-pass _ _ (sym (c .before .before .before .check-input .ensures) ∙ c .before .enum-told .given .1))
+returns-2 c = search (accept-passed, read)
 
 pub accept-spec : {M : Type 1} → statement M
 accept-spec =

@@ -1,7 +1,7 @@
 -- `plan::plan_options_at` meets its contract, case by case.
 use borrow.Author.Needs.{needs}
-use mathlib.Core.Path.{sym, ap, _∙_}
-use Rattle.checks.proofs.Judge.{ruled-refused, ruled-pass}
+use mathlib.Core.Path.{ap}
+use Rattle.checks.proofs.Tests.{refused-so, given-so, lists}
 use Rattle.plan.specs.declared.Acceptance.the-variants.{Planned}
 use Rattle.plan.specs.Plan.{planOptionsAt}
 use Rattle.plan.proofs.planning.plan_options_at.Statement.{statement}
@@ -21,11 +21,11 @@ plan-at-requires c κs = search needs
 
 returns : tie.Need-returns
 unfolding planOptionsAt
-returns c = sym (ruled-refused _ _ (sym (c .before .before .before .check-options .ensures) ∙ c .before .check .given .1))
+returns c = refused-so _ _ (search lists)
 
 returns-2 : tie.Need-returns-2
 unfolding planOptionsAt
-returns-2 c = ap Planned (c .plan-at .ensures) ∙ sym (ruled-pass _ _ (sym (c .before .before .before .check-options .ensures) ∙ c .before .enum-told .given .1))
+returns-2 c = given-so _ _ (search lists) (ap Planned (c .plan-at .ensures))
 
 pub plan-options-at-spec : {M : Type 1} → statement M
 plan-options-at-spec =

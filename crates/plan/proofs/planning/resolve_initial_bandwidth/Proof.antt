@@ -19,7 +19,7 @@ returns c = rw (c .before .bandwidth .given .1)
 
 returns-2 : tie.Need-returns-2
 unfolding resolveInitialBandwidth
-returns-2 c = rw (c .before .before .bandwidth2 .given .1, c .resolve-count .ensures .is)
+returns-2 c = rw (c .before .before .bandwidth2 .given .1, c .resolve-count .ensures)
 
 pub resolve-initial-bandwidth-spec : {M : Type 1} → statement M
 resolve-initial-bandwidth-spec =

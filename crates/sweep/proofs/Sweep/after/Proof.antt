@@ -1,6 +1,6 @@
 -- `sweep::Sweep::after`: each arm builds what `afterSolve` says of its outcome.
 use borrow.Author.Needs.{needs}
-use mathlib.Core.Path.{sym, ap, _∙_}
+use mathlib.Core.Path.{sym, ap}
 use native.Mathlib.Omega.{arith}
 use Rattle.sweep.specs.declared.Sweep.{Sweep}
 use Rattle.sweep.proofs.Sweeps.{after-found}

@@ -1,6 +1,6 @@
 -- `sweep::Swept::solves`: by the course.
 use borrow.Author.Needs.{needs}
-use mathlib.Core.Path.{sym, ap, _∙_}
+use mathlib.Core.Path.{sym, ap}
 use Rattle.sweep.specs.declared.Course.{Course}
 use Rattle.sweep.specs.Sweep.{solvesAfter}
 use Rattle.sweep.proofs.Swept.solves.Statement.{statement}
