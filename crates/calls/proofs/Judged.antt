@@ -114,7 +114,7 @@ module _ (coords x y : List ℕ) (p : ℕ) (o : GwrOptions) (out summary : ℕ) 
   abbrev room : ℕ
   room = roomOf n p out summary
 
-  fit-judged : judge (fitTests d p o room) ≡ judge (numberTests coords x y p o out summary)
+  pub fit-judged : judge (fitTests d p o room) ≡ judge (numberTests coords x y p o out summary)
   unfolding inputTests outputTests numberTests
   fit-judged =
       let places : length (d .coords) ≡ 2 * n = length-reals coords (2 * n) in
