@@ -15,6 +15,7 @@ use Rattle.wire.specs.Wire.{bitsOf, bytesOf, realBytes, placed}
 use Rattle.wire.proofs.Numbers.{length-bytesOf}
 use Rattle.wire.proofs.Placed.{length-placed}
 use Rattle.wire.proofs.Encoding.{length-realBytes}
+use Rattle.refusal.specs.declared.Refusal.{Refusal}
 use Rattle.setup.specs.declared.GwrOptions.{GwrOptions}
 use Rattle.criterion.specs.declared.Summary.{Summary}
 use Rattle.criterion.specs.Aicc.{failedSummary}
@@ -106,7 +107,7 @@ module _ (coords x y : List ℕ) (p kernel kind bandwidth : ℕ) (out summary : 
   abbrev f : Fit × List Float
   f = numbersFit coords x y p o
 
-  abbrev tests : List (Bool × _)
+  abbrev tests : List (Bool × Refusal)
   tests = callTests coords x y p kernel kind bandwidth (length out) (length summary)
 
   pub record CallPassed : Type 0 where
