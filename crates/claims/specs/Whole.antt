@@ -11,13 +11,14 @@ use Rattle.setup.specs.Data.{Data}
 use Rattle.setup.specs.declared.Setup.{Setup}
 use Rattle.plan.specs.declared.Plan.{Plan}
 use Rattle.plan.specs.declared.Plan.the-variants as plan
-use Rattle.plan.specs.Plan.{bandwidthAt}
+use Rattle.plan.specs.Bounds.{bandwidthAt}
 use Rattle.sweep.specs.declared.Finish.{Finish}
 use Rattle.sweep.specs.declared.Finish.the-variants as finish
-use Rattle.gwr.specs.declared.Trial.{Trial}
+use Rattle.search.specs.declared.Trial.{Trial}
+use Rattle.search.specs.Trial.{trialOf}
+use Rattle.search.specs.Literal.{Variables, loopBody, beforeLoop, goldenSectionMin}
 use Rattle.gwr.specs.declared.FitAnswer.{FitAnswer}
 use Rattle.gwr.specs.declared.FitAnswer.the-variants as fit
-use Rattle.gwr.specs.Search.{trialOf, Variables, loopBody, beforeLoop, goldenSectionMin}
 use Rattle.job.specs.declared.Answer.{Answer}
 use Rattle.job.specs.declared.Answer.the-variants as answer
 

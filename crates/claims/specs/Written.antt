@@ -5,9 +5,9 @@ use lib.Dec.{eqb}
 use Rattle.refusal.specs.Numbers.{refusalNumber}
 use Rattle.criterion.specs.declared.Criterion.{Criterion}
 use Rattle.criterion.specs.declared.Criterion.the-variants as criterion
-use Rattle.job.specs.declared.Stage.{Stage}
-use Rattle.job.specs.declared.Stage.the-variants.{First, Second, Round, Final, Ended}
-use Rattle.job.specs.declared.Job.{Job}
+use Rattle.stepping.specs.declared.Stage.{Stage}
+use Rattle.stepping.specs.declared.Stage.the-variants.{First, Second, Round, Final, Ended}
+use Rattle.stepping.specs.declared.Job.{Job}
 
 -- 01: a job that ends keeps the location of its last solve. With a value or 17 that was n - 1, and its row was written; with 14, 15 or 16 its row was not
 abbrev pub rowsEnded : Criterion → ℕ → ℕ → ℕ

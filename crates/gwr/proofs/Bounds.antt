@@ -31,13 +31,14 @@ use Rattle.sweep.specs.declared.Finish.the-variants.{Fitted, Failed}
 use Rattle.sweep.specs.Sweep.{fitAllLocations, solvesOf, endingAt}
 use Rattle.sweep.specs.Finish.{finishOf}
 use Rattle.sweep.proofs.Sweeps.{sweep-few, sweep-solves}
+use Rattle.sweep.proofs.Reached.{ReachedAt, sweep-reached}
 use Rattle.search.specs.Search.{optimizeBandwidth}
 use Rattle.search.proofs.Solves.{optimum-made}
 use Rattle.gwr.specs.declared.FitAnswer.{FitAnswer}
 use Rattle.gwr.specs.declared.FitAnswer.the-variants.{Done, Rejected}
 use Rattle.gwr.specs.declared.Fit.{Fit}
 use Rattle.gwr.specs.Fit.{finalOf, soughtOf, planned, answered, gwrFit}
-use Rattle.gwr.proofs.Swept.{Arrived, sweep-arrived, sweep-long}
+use Rattle.gwr.proofs.Swept.{sweep-long}
 
 -- an answer with so many rows, of n observations and an output of this length
 abbrev pub Sound : FitAnswer → ℕ → ℕ → ℕ → Type 0
@@ -58,7 +59,7 @@ module _ (d : Data) (p : ℕ) (o : GwrOptions) (out : List Float) where
   abbrev u : Setup
   u = setupOf d p o
 
-  final-sound : (s : Swept) (c : Course) (b : GwrBandwidth) (solves : ℕ) → Arrived c (u .n) (s .sweep .location) → 1 ≤ length out → solves ≤ 52736
+  final-sound : (s : Swept) (c : Course) (b : GwrBandwidth) (solves : ℕ) → ReachedAt u d b c (u .n) (s .sweep) → 1 ≤ length out → solves ≤ 52736
       → Sound (Done (finishOf (endingAt c u (s .sweep)) b solves)) (s .sweep .location) (u .n) (length out)
   final-sound s Going b solves r h k = finish-sound (correctedAic (u .n) (s .sweep .squares) (s .sweep .trace)) b solves (s .sweep .location) (u .n) (length out) h k r
   final-sound s (Stopped q) b solves r h k = (h, k)
@@ -75,7 +76,7 @@ module _ (d : Data) (p : ℕ) (o : GwrOptions) (out : List Float) where
       record {
         rows = omega (arith, most, a .room);
         long = sweep-long u d b (z .narrow) out (a .room);
-        sound = final-sound s (s .course) b (before + solvesOf s) (sweep-arrived true u d b out) (omega (arith, one, a .room)) (omega (arith, h, sweep-solves true u d b out, z .few));
+        sound = final-sound s (s .course) b (before + solvesOf s) (sweep-reached u d b true out) (omega (arith, one, a .room)) (omega (arith, h, sweep-solves true u d b out, z .few));
       }
 
   planned-fits : (q : Plan) → Accepted d p o (length out) → Fits (u .n) p (length out) (planned q u d out)

@@ -1,6 +1,6 @@
--- What a whole sweep leaves: one that goes on is at location n, and an output with rows is as long as before.
-use mathlib.Core.Path.{_≡_, refl, ap, _∙_}
-use mathlib.Core.Bool.{Bool, true}
+-- An output into which a sweep wrote rows is as long as before.
+use mathlib.Core.Path.{_≡_, refl, _∙_}
+use mathlib.Core.Bool.{true}
 use mathlib.Core.List.{List}
 use Prim.Native.Nat.{ℕ, zero, suc, _+_, _*_, _≤_, _<_}
 use native.Mathlib.Nat.{sub-zero}
@@ -18,36 +18,8 @@ use Rattle.local.proofs.Lengths.{beta-eight}
 use Rattle.local.proofs.Rows.{put-long}
 use Rattle.sweep.specs.declared.Course.{Course}
 use Rattle.sweep.specs.declared.Course.the-variants.{Going, Stopped}
-use Rattle.sweep.specs.declared.Sweep.{Sweep}
 use Rattle.sweep.specs.declared.Swept.{Swept}
-use Rattle.sweep.specs.Sweep.{newSweep, afterSolve, rowFound, visitAt, visit, fitAllLocations}
-
--- a sweep that goes on has solved every location before the i-th
-abbrev pub Arrived : Course → ℕ → ℕ → Type 0
-Arrived Going i location = location ≡ i
-Arrived (Stopped r) i location = Unit {0}
-
-after-arrived : (s : Sweep) (o : Outcome) (i : ℕ) → s .location ≡ i → Arrived (afterSolve s o .course) (i + 1) (afterSolve s o .sweep .location)
-after-arrived s (outcome.Found v) i e = ap (λ (k : ℕ). k + 1) e
-after-arrived s (outcome.Refused r) i e = tt
-
-module _ (rows : Bool) (u : Setup) (d : Data) (b : GwrBandwidth) where
-  visit-arrived : (c : Course) (i j : ℕ) (s : Swept × List Float) → s .0 .course ≡ c → Arrived c j (s .0 .sweep .location)
-      → let t = visitAt c rows u d b i s .0 in Arrived (t .course) (j + 1) (t .sweep .location)
-  visit-arrived Going i j s e h = after-arrived (s .0 .sweep) (solveLocation u d b i .outcome) j h
-  visit-arrived (Stopped r) i j s e h = rw e tt
-
-  turns-arrived : (i : ℕ) (out : List Float) → let t = turns (visit rows u d b) 0 i (record { course = Going; sweep = newSweep }, out) .0 in Arrived (t .course) i (t .sweep .location)
-  unfolding turns visit
-  turns-arrived zero out = refl
-  turns-arrived (suc k) out =
-      let t = turns (visit rows u d b) 0 k (record { course = Going; sweep = newSweep }, out) in
-      let one : k + 1 ≡ suc k = omega arith in
-      rw one at (visit-arrived (t .0 .course) (0 + k) k t refl (turns-arrived k out))
-
-  pub sweep-arrived : (out : List Float) → let t = fitAllLocations rows u d b out .0 in Arrived (t .course) (u .n) (t .sweep .location)
-  unfolding fitAllLocations range
-  sweep-arrived out = rw sub-zero (turns-arrived (u .n) out)
+use Rattle.sweep.specs.Sweep.{newSweep, rowFound, visitAt, visit, fitAllLocations}
 
 module _ (u : Setup) (d : Data) (b : GwrBandwidth) (narrow : u .p ≤ 7) where
   row-kept : (o : Outcome) (i : ℕ) (out : List Float) → i < u .n → u .n * (u .p + 4) ≤ length out → length (rowFound o u i (solveLocation u d b i .beta) out) ≡ length out

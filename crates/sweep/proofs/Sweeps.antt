@@ -2,12 +2,11 @@
 use mathlib.Core.Path.{_≡_, refl, sym, ap, subst, subst⁻¹, _∙_}
 use mathlib.Core.Bool.{Bool, true, false}
 use mathlib.Core.List.{List}
-use Prim.Native.Nat.{ℕ, zero, suc, _+_, _≤_}
-use native.Mathlib.Nat.{sub-zero}
+use Prim.Native.Nat.{ℕ, _+_, _≤_}
 use native.Mathlib.Omega.{arith}
 use lib.Ieee.{Float}
-use Rattle.real.specs.Fold.{turns, range}
-use Rattle.real.proofs.Fold.{related}
+use Rattle.real.specs.Fold.{range}
+use Rattle.real.proofs.Fold.{kept, related}
 use Rattle.refusal.specs.declared.Refusal.{Refusal}
 use Rattle.setup.specs.declared.GwrBandwidth.{GwrBandwidth}
 use Rattle.setup.specs.declared.Setup.{Setup}
@@ -22,7 +21,8 @@ use Rattle.sweep.specs.declared.Course.{Course}
 use Rattle.sweep.specs.declared.Course.the-variants.{Going, Stopped}
 use Rattle.sweep.specs.declared.Sweep.{Sweep}
 use Rattle.sweep.specs.declared.Swept.{Swept}
-use Rattle.sweep.specs.Sweep.{newSweep, addValues, nextLocation, afterSolve, rowFound, rowAfter, visitAt, visit, fitAllLocations, sweepOf, solvesAfter, solvesOf}
+use Rattle.sweep.specs.Sweep.{newSweep, addValues, nextLocation, afterSolve, rowFound, rowAfter, visitAt, visit, fitAllLocations, sweepOf, solvesOf}
+use Rattle.sweep.proofs.Reached.{range-reached, sweep-reached, reached-few}
 
 pub pair : {A B : Type 0} {a c : A} {x y : B} → a ≡ c → x ≡ y → _≡_ {A = A × B} (a, x) (c, y)
 pair p q = cc
@@ -51,11 +51,6 @@ after-next : (s : Sweep) (o : Outcome) → afterSolve s o .sweep .location ≤ s
 after-next s (outcome.Found v) = omega arith
 after-next s (outcome.Refused r) = omega arith
 
--- and counts, whether it was solved or not
-after-solves : (s : Sweep) (o : Outcome) → solvesOf (afterSolve s o) ≡ s .location + 1
-after-solves s (outcome.Found v) = refl
-after-solves s (outcome.Refused r) = refl
-
 module _ (rows : Bool) (u : Setup) (d : Data) (b : GwrBandwidth) where
   visit-next : (c : Course) (i : ℕ) (s : Swept × List Float) → visitAt c rows u d b i s .0 .sweep .location ≤ s .0 .sweep .location + 1
   visit-next Going i s = after-next (s .0 .sweep) (solveLocation u d b i .outcome)
@@ -83,39 +78,20 @@ module _ (rows : Bool) (u : Setup) (d : Data) (b : GwrBandwidth) where
       let f = ap (λ (q : Swept × List Float). q .0 .sweep .location) e in
       omega (arith, k, f, h)
 
-  swept-turns : (i : ℕ) (s : Swept × List Float) → turns (visit rows u d b) 0 i s .0 .sweep .location ≤ s .0 .sweep .location + i
-  unfolding turns
-  swept-turns zero s = omega arith
-  swept-turns (suc k) s = let h = visited (0 + k) (turns (visit rows u d b) 0 k s) in omega (arith, h, swept-turns k s)
-
   -- after i visits it is at location i at most
   pub swept-few : (i : ℕ) (out : List Float) → range (visit rows u d b) 0 i (record { course = Going; sweep = newSweep }, out) .0 .sweep .location ≤ i
-  unfolding range
-  swept-few i out = rw sub-zero (let h = swept-turns i (record { course = Going; sweep = newSweep }, out) in omega (arith, h))
+  swept-few i out =
+      let s = range (visit rows u d b) 0 i (record { course = Going; sweep = newSweep }, out) .0 in
+      let k = reached-few u d b i s (range-reached u d b rows out i) in
+      omega (arith, k .rows, k .all)
 
-  -- so a whole one ends at location n at most
+  -- so a whole one ends at location n at most, and has made n solves at most
   pub sweep-few : (out : List Float) → fitAllLocations rows u d b out .0 .sweep .location ≤ u .n
   unfolding fitAllLocations
   sweep-few out = swept-few (u .n) out
 
-  solves-next : (c : Course) (i : ℕ) (s : Swept × List Float) → s .0 .course ≡ c → solvesOf (visitAt c rows u d b i s .0) ≤ solvesOf (s .0) + 1
-  solves-next Going i s e =
-      let h = after-solves (s .0 .sweep) (solveLocation u d b i .outcome) in
-      omega (arith, h, ap (λ (k : Course). solvesAfter k (s .0 .sweep .location)) e)
-  solves-next (Stopped r) i s e = omega arith
-
-  solves-turns : (i : ℕ) (s : Swept × List Float) → solvesOf (turns (visit rows u d b) 0 i s .0) ≤ solvesOf (s .0) + i
-  unfolding turns visit
-  solves-turns zero s = omega arith
-  solves-turns (suc k) s =
-      let t = turns (visit rows u d b) 0 k s in
-      let h = solves-next (t .0 .course) (0 + k) t refl in
-      omega (arith, h, solves-turns k s)
-
-  -- and it has made n solves at most
   pub sweep-solves : (out : List Float) → solvesOf (fitAllLocations rows u d b out .0) ≤ u .n
-  unfolding fitAllLocations range
-  sweep-solves out = rw sub-zero (let h = solves-turns (u .n) (record { course = Going; sweep = newSweep }, out) in omega (arith, h))
+  sweep-solves out = reached-few u d b (u .n) (fitAllLocations rows u d b out .0) (sweep-reached u d b rows out) .all
 
   -- the same of a sweep that was made
   pub made-few : (s : Swept) (out after : List Float) → _≡_ {A = Swept × List Float} (s, after) (fitAllLocations rows u d b out) → (s .sweep .location ≤ u .n) × (solvesOf s ≤ u .n)
@@ -123,16 +99,28 @@ module _ (rows : Bool) (u : Setup) (d : Data) (b : GwrBandwidth) where
 
 -- ---- with rows or without, a sweep is the same
 module _ (u : Setup) (d : Data) (b : GwrBandwidth) where
-  visit-alone : (c e : Course) (i : ℕ) (s t : Swept × List Float) → c ≡ e → s .0 ≡ t .0 → visitAt c false u d b i s .0 ≡ visitAt e true u d b i t .0
-  visit-alone c e i s t f h = subst (λ (k : Course). visitAt c false u d b i s .0 ≡ visitAt k true u d b i t .0) f (same c)
+  visit-alone : (rows : Bool) (c e : Course) (i : ℕ) (s t : Swept × List Float) → c ≡ e → s .0 ≡ t .0 → visitAt c false u d b i s .0 ≡ visitAt e rows u d b i t .0
+  visit-alone rows c e i s t f h = subst (λ (k : Course). visitAt c false u d b i s .0 ≡ visitAt k rows u d b i t .0) f (same c)
     where
-      same : (k : Course) → visitAt k false u d b i s .0 ≡ visitAt k true u d b i t .0
+      same : (k : Course) → visitAt k false u d b i s .0 ≡ visitAt k rows u d b i t .0
       same Going = ap (λ (w : Swept). afterSolve (w .sweep) (solveLocation u d b i .outcome)) h
       same (Stopped r) = h
 
-  pub sweep-alone : (out : List Float) → sweepOf u d b ≡ fitAllLocations true u d b out .0
+  pub sweep-same : (rows : Bool) (out : List Float) → sweepOf u d b ≡ fitAllLocations rows u d b out .0
   unfolding fitAllLocations visit
-  sweep-alone out =
-      related (visit false u d b) (visit true u d b) 0 (u .n) (λ (s t : Swept × List Float). s .0 ≡ t .0)
-      (λ k s t h e. visit-alone (s .0 .course) (t .0 .course) k s t (ap (λ (w : Swept). w .course) e) e)
+  sweep-same rows out =
+      related (visit false u d b) (visit rows u d b) 0 (u .n) (λ (s t : Swept × List Float). s .0 ≡ t .0)
+      (λ k s t h e. visit-alone rows (s .0 .course) (t .0 .course) k s t (ap (λ (w : Swept). w .course) e) e)
       _ _ (omega arith) refl
+
+  pub sweep-alone : (out : List Float) → sweepOf u d b ≡ fitAllLocations true u d b out .0
+  sweep-alone out = sweep-same true out
+
+  visit-left : (c : Course) (i : ℕ) (s : Swept × List Float) → visitAt c false u d b i s .1 ≡ s .1
+  visit-left Going i s = refl
+  visit-left (Stopped r) i s = refl
+
+  -- and without rows it leaves the output
+  pub sweep-left : (out : List Float) → fitAllLocations false u d b out .1 ≡ out
+  unfolding fitAllLocations visit
+  sweep-left out = kept (visit false u d b) 0 (u .n) (λ (s : Swept × List Float). s .1 ≡ out) (λ k s h e. visit-left (s .0 .course) k s ∙ e) _ (omega arith) refl
