@@ -14,6 +14,8 @@ use Rattle.calls.specs.declared.KernelChoice.the-variants as kernel
 use Rattle.calls.specs.declared.Choice.{Choice}
 use Rattle.calls.specs.declared.Choice.the-variants as choice
 
+-- ---- kernels
+
 -- 01: 0 Gaussian, 1 Bisquare, 2 Exponential
 unfoldable pub kernelOf : ℕ → KernelChoice
 kernelOf number =
@@ -21,6 +23,18 @@ kernelOf number =
     (cond (eqb number 1) (kernel.Known Bisquare)
     (cond (eqb number 2) (kernel.Known Exponential)
     kernel.Unknown))
+
+-- whether 18 is owed
+abbrev pub isUnknownKernel : KernelChoice → Bool
+isUnknownKernel (kernel.Known k) = false
+isUnknownKernel kernel.Unknown = true
+
+-- the kernel that a number names; where 18 is owed, any
+abbrev pub namedKernel : KernelChoice → GwrKernel
+namedKernel (kernel.Known k) = k
+namedKernel kernel.Unknown = defaultOptions .kernel
+
+-- ---- options
 
 abbrev pub chosenOf : GwrKernel → GwrBandwidth → Bool → Choice
 chosenOf k b search = choice.Known (record { kernel = k; bandwidth = b; «optimize_bandwidth» = search })

@@ -1,2 +1,4 @@
 pub mod Fits
 pub mod Literal
+pub mod Swept
+pub mod Bounds

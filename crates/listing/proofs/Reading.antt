@@ -10,15 +10,15 @@ use lib.Dec.{ltb}
 use lib.ListN.{length, take, drop, replicate, length-take}
 use lib.Seq.{take-all, take-nil, take-take, take-add, take-at, drop-at}
 use Rattle.wire.specs.Wire.{numberOf, loadOf, placed}
-use Rattle.text.specs.Listing.{Written}
+use Rattle.text.specs.Listing.{WrittenText}
 use Rattle.refusal.specs.declared.Refusal.{Refusal}
-use Rattle.checks.specs.Judge.{judge}
-use Rattle.calls.specs.Calls.{After}
+use Rattle.checks.specs.Judge.{judge, ruled}
+use Rattle.calls.specs.Calls.{AfterCall}
 use Rattle.listing.specs.declared.Head.{Head}
 use Rattle.listing.specs.declared.Header.{Header}
 use Rattle.listing.specs.declared.Header.the-variants.{Whole, Refused}
 use Rattle.listing.specs.Headers.{headerTests, headerOf, partsLen}
-use Rattle.listing.specs.Jobs.{placesEnd, predictorsEnd, responsesEnd, cutTests, answerText, fitOfParts, wholeText, textAfter, jobText}
+use Rattle.listing.specs.Jobs.{placesEnd, predictorsEnd, responsesEnd, cutTests, answerText, callOfParts, wholeText, refusedText, jobText}
 use Rattle.listing.specs.Printed.{textOf, printed, asked, readOf}
 use Rattle.listing.proofs.Texts.{header-short}
 
@@ -58,16 +58,16 @@ module _ (h : Head) (parts : List ℕ) (m : ℕ) (whole : responsesEnd (h .n) (h
   unfolding cutTests
   cut-front = rw (short-front parts (placesEnd (h .n)) m (omega arith), short-front parts (predictorsEnd (h .n) (h .p)) m (omega arith), short-front parts (responsesEnd (h .n) (h .p)) m)
 
-  fit-front : (out summary : List ℕ) → fitOfParts h (take m parts) out summary ≡ fitOfParts h parts out summary
-  unfolding fitOfParts
-  fit-front out summary =
+  call-front : (out summary : List ℕ) → callOfParts h (take m parts) out summary ≡ callOfParts h parts out summary
+  unfolding callOfParts
+  call-front out summary =
       rw (take-take (placesEnd (h .n)) m parts (omega arith), part-front (8 * (h .n * h .p)) (placesEnd (h .n)) m parts (omega arith), part-front (8 * h .n) (predictorsEnd (h .n) (h .p)) m parts)
 
   job-front : jobText h (take m parts) ≡ jobText h parts
   unfolding jobText wholeText
   job-front =
-      ap (λ (ts : List (Bool × Refusal)). textAfter (judge ts) (wholeText h (take m parts) (replicate 45056 0) (replicate 24 0))) cut-front
-      ∙ ap (λ (a : After). textAfter (judge (cutTests (length parts) (h .n) (h .p))) (answerText a (h .n) (h .p + 4))) (fit-front (replicate 45056 0) (replicate 24 0))
+      ap (λ (ts : List (Bool × Refusal)). ruled (judge ts) refusedText (wholeText h (take m parts) (replicate 45056 0) (replicate 24 0))) cut-front
+      ∙ ap (λ (a : AfterCall). ruled (judge (cutTests (length parts) (h .n) (h .p))) refusedText (answerText a (h .n) (h .p + 4))) (call-front (replicate 45056 0) (replicate 24 0))
 
 text-front : (h : Header) (parts : List ℕ) → textOf h (take (asked h) parts) ≡ textOf h parts
 text-front (Whole h) parts = job-front h parts (partsLen (h .n) (h .p)) (omega (arith, mul-add (h .n) (h .p) 3))
@@ -86,7 +86,7 @@ printed-read input =
     ∙ text-front (headerOf input) (drop 40 input)
 
 -- of an input of which the program has read what it asks for, the bytes that it hands on to be written are all that is owed
-pub handed-on : (input d₀ d : List ℕ) (end : ℕ) → Written d₀ 0 (printed (readOf input)) d end → take end d ≡ printed input
+pub handed-on : (input d₀ d : List ℕ) (end : ℕ) → WrittenText d₀ 0 (printed (readOf input)) d end → take end d ≡ printed input
 unfolding placed
 handed-on input d₀ d end w =
     let line = printed (readOf input) in
@@ -96,7 +96,7 @@ handed-on input d₀ d end w =
 
 -- bytes that are too few for a header ask for none
 pub asked-none : (s : List ℕ) → length s < 40 → asked (headerOf s) ≡ 0
-asked-none s h = sym (ap (λ (k : Header). asked k) (header-short s h .is))
+asked-none s h = sym (ap (λ (k : Header). asked k) (header-short s h))
 
 pub read-short : (s : List ℕ) → length s < 40 → readOf s ≡ s
 read-short s h =

@@ -2,17 +2,14 @@
 use Prim.Native.Nat.{ℕ}
 use mathlib.Core.List.{List, _++_}
 use lib.ListN.{take, drop}
-use Rattle.text.specs.Listing.{refusedLine}
-use Rattle.refusal.specs.Numbers.{refusalNumber}
 use Rattle.listing.specs.declared.Header.{Header}
 use Rattle.listing.specs.declared.Header.the-variants.{Whole, Refused}
 use Rattle.listing.specs.Headers.{headerOf, partsLen}
-use Rattle.listing.specs.Jobs.{jobText}
+use Rattle.listing.specs.Jobs.{refusedText, jobText}
 
--- 01: a refusal prints `fit` and its number only
 abbrev pub textOf : Header → List ℕ → List ℕ
 textOf (Whole h) parts = jobText h parts
-textOf (Refused r) parts = refusedLine (refusalNumber r)
+textOf (Refused r) parts = refusedText r
 
 -- 01: `gwrprint` reads a header of five numbers, 8 bytes each, then the parts; bytes left over are ignored
 unfoldable pub printed : List ℕ → List ℕ

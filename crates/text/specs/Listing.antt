@@ -87,7 +87,7 @@ rowsOf s width zero = []
 rowsOf s width (suc n) = rowsOf s width n ++ (loads s (n * width) width ∷ [])
 
 -- d is d₀ with the line from `at` on, and the line ends at `end`
-pub record Written (d₀ : List ℕ) (at : ℕ) (line d : List ℕ) (end : ℕ) : Type 0 where
+pub record WrittenText (d₀ : List ℕ) (at : ℕ) (line d : List ℕ) (end : ℕ) : Type 0 where
   pub is : d ≡ placed d₀ at line
   pub stop : end ≡ at + length line
   pub long : length d ≡ length d₀

@@ -1,16 +1,16 @@
--- `listing::check_parts` meets its contract.
+-- `listing::check_cuts` meets its contract.
 use borrow.Author.Needs.{needs}
 use borrow.Author.Tests.{eq-eqb, ne-eqb, lt-ltb, le-ltb}
 use native.Mathlib.Omega.{arith}
 use native.Mathlib.Nat.{mul-le-mul}
 use Rattle.checks.specs.Judge.{judge}
 use Rattle.listing.specs.Jobs.{cutTests}
-use Rattle.listing.proofs.check_parts.Statement.{statement}
-use Rattle.listing.proofs.check_parts.Tie as tie
+use Rattle.listing.proofs.check_cuts.Statement.{statement}
+use Rattle.listing.proofs.check_cuts.Tie as tie
 
-pub check-parts-spec : {M : Type 1} → statement M
+pub check-cuts-spec : {M : Type 1} → statement M
 unfolding judge cutTests
-check-parts-spec =
+check-cuts-spec =
     tie.close
     (tie.spec
     (λ c. search needs)
