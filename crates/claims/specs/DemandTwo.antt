@@ -49,7 +49,7 @@ use Rattle.plan.specs.declared.Acceptance.the-variants as acceptance
 use Rattle.plan.specs.Bounds.{bandwidthAt}
 use Rattle.plan.specs.Checks.{fitTests}
 use Rattle.plan.specs.Plan.{acceptOf}
-use Rattle.search.specs.Search.{trialOf}
+use Rattle.search.specs.Trial.{trialOf}
 use Rattle.search.specs.Literal.{goldenSectionMin}
 use Rattle.gwr.specs.Fit.{finalOf, gwrFit}
 

@@ -22,14 +22,15 @@ use Rattle.setup.specs.Shape.{setupOf}
 use Rattle.checks.specs.declared.Check.{Check}
 use Rattle.checks.specs.declared.Check.the-variants as check
 use Rattle.checks.specs.Judge.{judge, ruled, NoneOf, Decides}
-use Rattle.checks.proofs.Judge.{ruled-append, ruled-refused, ruled-pass, judge-append, judge-rest, decides}
-use Rattle.plan.specs.Checks.{valueTests, optionTests}
+use Rattle.checks.proofs.Judge.{ruled-append, ruled-refused, ruled-pass, judge-append, judge-rest, none-append, decides}
+use Rattle.plan.specs.Checks.{valueTests, optionTests, fitTests}
 use Rattle.gwr.specs.declared.Fit.{Fit}
 use Rattle.gwr.specs.Fit.{gwrFit}
 use Rattle.gwr.proofs.Bounds.{Sound, fits}
 use Rattle.calls.specs.Options.{optionsOf, isUnknown, named}
 use Rattle.calls.specs.Calls.{byteTests, numbersOf, lentTooShort, numberTests, callTests, AfterCall, refusedCall, fittedBytes, numbersFit, fitBytes, ByteLengths}
 use Rattle.calls.proofs.Judged.{lengths-pass, call-decides}
+use Rattle.calls.proofs.Served.{call-passed}
 use Rattle.listing.specs.declared.Head.{Head}
 use Rattle.listing.specs.declared.Header.{Header}
 use Rattle.listing.specs.declared.Header.the-variants.{Whole, Refused}
@@ -135,6 +136,13 @@ module _ (h : Head) (parts : List ℕ) (known : isUnknown (optionsOf (h .kernel)
         ∙ ruled-pass check.Refused (judge rest) (lengths-pass (length A) (length B) (length D) p lengths)
         ∙ numbers-judged
 
+    -- where the rest passes, the fit of the numbers is not refused
+    pub whole-fits : NoneOf (dataTests h parts) → NoneOf (fitTests (dataIn h parts) p o (length (replicate (n * (p + 4)) zero64)))
+    whole-fits e =
+        ap (λ (k : ℕ). judge (fitTests (dataIn h parts) p o (length (replicate (k * (p + 4)) zero64)))) (sym count)
+        ∙ ap (λ (d : Data). judge (fitTests d p o (length (replicate (length A / 16 * (p + 4)) zero64)))) (sym same)
+        ∙ call-passed A B D p (h .kernel) (h .kind) (h .bandwidth) out summary (call-judged ∙ e) .fitted
+
     -- the text of whole parts
     pub whole-judged : wholeText h parts out summary ≡ ruled (judge (dataTests h parts)) refusedText (textOfFit (fitIn h parts) n p)
     unfolding wholeText callOfParts
@@ -205,3 +213,12 @@ module _ (input : List ℕ) where
   -- the program refuses exactly as the list says, and prints the fit of the numbers otherwise
   pub printed-decides : Decides (printTests input) (λ (r : Refusal). printed input ≡ refusedText r) (printed input ≡ text)
   printed-decides = decides (printTests input) printed-judged
+
+  -- and that fit is not refused from its input
+  pub printed-fits : NoneOf (printTests input) → NoneOf (fitTests (dataIn head behind) (head .p) (optionsIn head) (length (replicate (head .n * (head .p + 4)) zero64)))
+  unfolding printTests
+  printed-fits h =
+      let a = none-append (headerTests input) (cuts ++ dataTests head behind) h in
+      let b = none-append cuts (dataTests head behind) (a .1) in
+      let z = header-passed input (a .0) in
+      whole-fits head behind (z .known) (z .some) (z .few) (z .narrow) (parts-whole (length behind) (head .n) (head .p) (b .0)) (replicate 45056 0) (replicate 24 0) (omega (arith, length-replicate {A = ℕ} 45056 0)) (omega (arith, length-replicate {A = ℕ} 24 0)) (b .1)

@@ -1,18 +1,13 @@
 -- The fit, beginning and the weight of a distance: which inputs are refused, and what is served.
 use mathlib.Core.Path.{_≡_, refl, sym, ap, subst, subst⁻¹, _∙_}
-use mathlib.Core.Bool.{Bool, true, false, cond, not}
+use mathlib.Core.Bool.{false}
 use mathlib.Core.List.{List, []}
 use Prim.Native.Nat.{ℕ}
 use lib.ListN.{length, replicate, length-replicate}
-use lib.Ieee.{Float, le}
+use lib.Ieee.{Float}
 use Rattle.real.specs.Reals.{zero64}
 use Rattle.refusal.specs.declared.Refusal.{Refusal}
-use Rattle.refusal.specs.declared.Refusal.the-variants.{CoordinateNotFinite}
-use Rattle.checks.specs.declared.Check.the-variants as check
-use Rattle.checks.specs.Judge.{judge, FirstOf, NoneOf, Decides}
-use Rattle.kernel.specs.declared.GwrKernel.{GwrKernel}
-use Rattle.kernel.specs.declared.Weighed.the-variants as weight
-use Rattle.kernel.specs.Weight.{weightOf, weighed}
+use Rattle.checks.specs.Judge.{FirstOf, NoneOf, Decides}
 use Rattle.setup.specs.declared.GwrOptions.{GwrOptions}
 use Rattle.setup.specs.declared.Setup.{Setup}
 use Rattle.setup.specs.Data.{Data}
@@ -31,7 +26,6 @@ use Rattle.job.specs.declared.Begun.{Begun}
 use Rattle.job.specs.Fitness.{sizesFit, isFit}
 use Rattle.job.specs.Begin.{begunWith, beginOf}
 use Rattle.job.proofs.Fits.{fit-means}
-use Rattle.calls.specs.Calls.{distanceTests}
 use Rattle.claims.specs.Whole.{finalBandwidth, searchSolves}
 use Rattle.claims.specs.Turns.{AllLawful}
 use Rattle.claims.specs.DemandOne.{JobServed, BeginRefused, BeginServed}
@@ -88,18 +82,3 @@ module _ (d : Data) (p : ℕ) (o : GwrOptions) where
         refused = begin-refused out;
         served = subst (λ (k : ℕ). NoneOf (fitTests d p o k) → BeginServed (beginOf d p o k)) (length-replicate out zero64) (begin-served (replicate out zero64));
       }
-
--- ---- a distance
-
-pub weigh-decides : (k : GwrKernel) (d b : Float)
-    → Decides (distanceTests d) (λ (r : Refusal). weighed k d b ≡ weight.BadDistance) (weighed k d b ≡ weight.Weight (weightOf k d b))
-unfolding weighed judge
-weigh-decides k d b = record { refused = λ r e. bad (le zero64 d) r e; served = λ e. good (le zero64 d) e }
-  where
-    bad : (c : Bool) (r : Refusal) → cond (not c) (check.Refused CoordinateNotFinite) check.Pass ≡ check.Refused r → cond c (weight.Weight (weightOf k d b)) weight.BadDistance ≡ weight.BadDistance
-    bad true r e = cc
-    bad false r e = refl
-
-    good : (c : Bool) → cond (not c) (check.Refused CoordinateNotFinite) check.Pass ≡ check.Pass → cond c (weight.Weight (weightOf k d b)) weight.BadDistance ≡ weight.Weight (weightOf k d b)
-    good true e = refl
-    good false e = cc
