@@ -38,7 +38,7 @@ use Rattle.listing.specs.Headers.{headOf, headerTests, headerOf}
 use Rattle.listing.specs.Jobs.{placesEnd, predictorsEnd, responsesEnd, cutTests, refusedText, answerText, callOfParts, wholeText, jobText}
 use Rattle.listing.specs.Printed.{textOf, printed}
 use Rattle.listing.specs.Numbers.{dataIn, optionsIn, dataTests, printTests, fitIn, fitOn, textOfFit}
-use Rattle.listing.proofs.Texts.{refused-text, header-passed, parts-whole}
+use Rattle.listing.proofs.Texts.{refused-text, PassedHeader, header-passed, parts-whole}
 use Rattle.listing.proofs.Reading.{load-front}
 use Rattle.listing.proofs.Numbers.{answer-text}
 
@@ -136,24 +136,19 @@ module _ (h : Head) (parts : List ℕ) (known : isUnknown (optionsOf (h .kernel)
         ∙ ruled-pass check.Refused (judge rest) (lengths-pass (length A) (length B) (length D) p lengths)
         ∙ numbers-judged
 
-    -- where the rest passes, the fit of the numbers is not refused
-    pub whole-fits : NoneOf (dataTests h parts) → NoneOf (fitTests (dataIn h parts) p o (length (replicate (n * (p + 4)) zero64)))
-    whole-fits e =
-        ap (λ (k : ℕ). judge (fitTests (dataIn h parts) p o (length (replicate (k * (p + 4)) zero64)))) (sym count)
-        ∙ ap (λ (d : Data). judge (fitTests d p o (length (replicate (length A / 16 * (p + 4)) zero64)))) (sym same)
-        ∙ call-passed A B D p (h .kernel) (h .kind) (h .bandwidth) out summary (call-judged ∙ e) .fitted
+    -- of numbers that no test refuses the fit's own list refuses nothing
+    pub numbers-fit : NoneOf (dataTests h parts) → NoneOf (fitTests (dataIn h parts) p o (length (replicate (n * (p + 4)) zero64)))
+    numbers-fit e =
+        let z = call-passed A B D p (h .kernel) (h .kind) (h .bandwidth) out summary (call-judged ∙ e) .fitted in
+        ap (λ (d : Data). judge (fitTests d p o (length (replicate (n * (p + 4)) zero64)))) (sym same)
+        ∙ ap (λ (k : ℕ). judge (fitTests (numbersOf A B D p) p o (length (replicate (k * (p + 4)) zero64)))) (sym count)
+        ∙ z
 
     -- the text of whole parts
     pub whole-judged : wholeText h parts out summary ≡ ruled (judge (dataTests h parts)) refusedText (textOfFit (fitIn h parts) n p)
     unfolding wholeText callOfParts
     whole-judged = go (judge (dataTests h parts)) refl
       where
-        f : Fit × List Float
-        f = fitIn h parts
-
-        T : List ℕ
-        T = textOfFit (fitIn h parts) n p
-
         call : Decides (callTests A B D p (h .kernel) (h .kind) (h .bandwidth) (length out) (length summary))
             (λ (r : Refusal). fitBytes A B D p (h .kernel) (h .kind) (h .bandwidth) out summary ≡ refusedCall r out summary)
             (fitBytes A B D p (h .kernel) (h .kind) (h .bandwidth) out summary ≡ fittedBytes p (numbersFit A B D p o) out summary)
@@ -214,11 +209,21 @@ module _ (input : List ℕ) where
   pub printed-decides : Decides (printTests input) (λ (r : Refusal). printed input ≡ refusedText r) (printed input ≡ text)
   printed-decides = decides (printTests input) printed-judged
 
-  -- and that fit is not refused from its input
-  pub printed-fits : NoneOf (printTests input) → NoneOf (fitTests (dataIn head behind) (head .p) (optionsIn head) (length (replicate (head .n * (head .p + 4)) zero64)))
+  -- an input that no test refuses: its header, its parts, and that the fit of its numbers is not refused
+  pub record PrintPassed : Type 0 where
+    pub header : PassedHeader input
+    pub whole : responsesEnd (head .n) (head .p) ≤ length behind
+    pub fitted : NoneOf (fitTests (dataIn head behind) (head .p) (optionsIn head) (length (replicate (head .n * (head .p + 4)) zero64)))
+
+  pub print-passed : NoneOf (printTests input) → PrintPassed
   unfolding printTests
-  printed-fits h =
-      let a = none-append (headerTests input) (cuts ++ dataTests head behind) h in
+  print-passed e =
+      let a = none-append (headerTests input) (cuts ++ dataTests head behind) e in
       let b = none-append cuts (dataTests head behind) (a .1) in
       let z = header-passed input (a .0) in
-      whole-fits head behind (z .known) (z .some) (z .few) (z .narrow) (parts-whole (length behind) (head .n) (head .p) (b .0)) (replicate 45056 0) (replicate 24 0) (omega (arith, length-replicate {A = ℕ} 45056 0)) (omega (arith, length-replicate {A = ℕ} 24 0)) (b .1)
+      let w = parts-whole (length behind) (head .n) (head .p) (b .0) in
+      record {
+        header = z;
+        whole = w;
+        fitted = numbers-fit head behind (z .known) (z .some) (z .few) (z .narrow) w (replicate 45056 0) (replicate 24 0) (omega (arith, length-replicate {A = ℕ} 45056 0)) (omega (arith, length-replicate {A = ℕ} 24 0)) (b .1);
+      }

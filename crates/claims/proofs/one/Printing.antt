@@ -10,7 +10,7 @@ use Rattle.listing.specs.Headers.{headOf}
 use Rattle.listing.specs.Jobs.{refusedText}
 use Rattle.listing.specs.Printed.{printed}
 use Rattle.listing.specs.Numbers.{dataIn, optionsIn, printTests}
-use Rattle.listing.proofs.Judged.{printed-decides, printed-fits}
+use Rattle.listing.proofs.Judged.{printed-decides, print-passed}
 use Rattle.claims.specs.DemandOne.{PrintServed}
 use Rattle.claims.proofs.one.Deciding.{fit-decides}
 
@@ -22,5 +22,5 @@ module _ (input : List ℕ) where
         refused = t .refused;
         served = λ h.
             let z = headOf input in
-            record { numbers = fit-decides (dataIn z (drop 40 input)) (z .p) (optionsIn z) (replicate (z .n * (z .p + 4)) zero64) .served (printed-fits input h); text = t .served h };
+            record { numbers = fit-decides (dataIn z (drop 40 input)) (z .p) (optionsIn z) (replicate (z .n * (z .p + 4)) zero64) .served (print-passed input h .fitted); text = t .served h };
       }
