@@ -13,8 +13,9 @@ use gwr::Fit;
 use gwr::FitAnswer;
 use job::Answer;
 use job::Beginning;
-use job::Job;
 use setup::GwrOptions;
+use stepping::Job;
+use sweep::Finish;
 
 // After a turn: whether its output is that of the record that follows, and that of the uninterrupted fit, and the steps so far.
 struct Seen {
@@ -190,14 +191,15 @@ fn answered_so(answer: Answer, want: u32, steps: u32, fit: Ending, seen: Seen) -
     match answer {
         Answer::Working => want == 0,
         Answer::Refused(r) => compare::both(r.number() == want, steps == 0),
-        Answer::Ended(s) => compare::both(
-            compare::both(want == 0, fit.number == 0),
-            ended_so(fit, s, seen),
-        ),
-        Answer::Failed(r, s) => compare::both(
-            compare::both(want == 0, r.number() == fit.number),
-            ended_so(fit, s, seen),
-        ),
+        Answer::Ended(f) => compare::both(want == 0, finished_so(f, fit, seen)),
+    }
+}
+
+// Whether a list ended as the fit did.
+fn finished_so(f: Finish, fit: Ending, seen: Seen) -> bool {
+    match f {
+        Finish::Fitted(s) => compare::both(fit.number == 0, ended_so(fit, s, seen)),
+        Finish::Failed(r, s) => compare::both(r.number() == fit.number, ended_so(fit, s, seen)),
     }
 }
 

@@ -4,12 +4,14 @@ use crate::compare::WORKING;
 use crate::tally::Tally;
 use criterion::Criterion;
 use golden::Bracket;
-use job::Job;
-use job::Stage;
 use kernel::GwrKernel;
 use setup::GwrBandwidth;
 use setup::GwrOptions;
 use setup::Setup;
+use stepping::Job;
+use stepping::Stage;
+use stepping::Trials;
+use sweep::Sweep;
 
 // A record in numbers, and what a turn with no allowance on it must answer: a refusal, or WORKING.
 struct Row {
@@ -127,6 +129,15 @@ fn record(row: Row) -> Job {
         bandwidth: bandwidth_of(row.kind),
         optimize_bandwidth: true,
     };
+    let trials = Trials {
+        bracket: Bracket::none(),
+        made: row.trials,
+    };
+    let sweep = Sweep {
+        location: row.location,
+        trace: 0.0,
+        squares: 0.0,
+    };
     Job {
         setup: Setup {
             options,
@@ -134,12 +145,9 @@ fn record(row: Row) -> Job {
             p: row.p,
         },
         stage: stage_of(row.stage),
-        bracket: Bracket::none(),
+        trials,
         bandwidth: bandwidth_of(row.bandwidth),
-        location: row.location,
-        trace: 0.0,
-        squares: 0.0,
-        trials: row.trials,
+        sweep,
         solves: row.solves,
     }
 }

@@ -1,7 +1,7 @@
 // What was counted.
 use crate::compare;
-use job::Job;
 use job::Turned;
+use stepping::Job;
 
 // One more, never past a thousand million.
 pub fn more(x: u64) -> u64 {
