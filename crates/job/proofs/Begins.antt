@@ -1,23 +1,21 @@
--- The arms of beginning's code, and that a record begun is fit.
-use mathlib.Core.Path.{_≡_, refl, sym, ap, _∙_}
+-- The arms of beginning's code.
+use mathlib.Core.Path.{_≡_, sym, ap, _∙_}
 use Prim.Native.Nat.{ℕ}
 use Rattle.setup.specs.declared.GwrOptions.{GwrOptions}
 use Rattle.setup.specs.declared.GwrBandwidth.{GwrBandwidth}
 use Rattle.setup.specs.declared.Setup.{Setup}
 use Rattle.setup.specs.Data.{Data}
-use Rattle.setup.specs.Shape.{setupOf, Sized}
+use Rattle.setup.specs.Shape.{setupOf}
 use Rattle.golden.specs.declared.Bracket.{Bracket}
 use Rattle.golden.specs.Golden.{noBracket, startOf}
 use Rattle.plan.specs.declared.Plan.{Plan}
 use Rattle.plan.specs.declared.Plan.the-variants.{Settled, Sought}
 use Rattle.plan.specs.declared.Acceptance.{Acceptance}
-use Rattle.plan.specs.declared.Acceptance.the-variants as acceptance
 use Rattle.plan.specs.Bounds.{bandwidthAt}
 use Rattle.plan.specs.Plan.{acceptOf}
 use Rattle.stepping.specs.declared.Stage.the-variants.{First, Final}
 use Rattle.stepping.specs.declared.Job.{Job}
 use Rattle.stepping.specs.Step.{freshJob}
-use Rattle.job.specs.declared.Beginning.the-variants.{Ready, Refused}
 use Rattle.job.specs.declared.Begun.{Begun}
 use Rattle.job.specs.Begin.{startJob, begunWith, beginOf}
 use lib.Ieee.{Float}

@@ -1,21 +1,24 @@
 -- The test of a record means 01's list: part by part, then the whole.
-use mathlib.Core.Path.{_≡_, refl, sym, _∙_}
-use mathlib.Core.Bool.{Bool, true, false, _&&_, true≢false}
+use mathlib.Core.Path.{_≡_, refl, sym}
+use mathlib.Core.Bool.{true, false, true≢false}
 use Prim.Native.Nat.{ℕ, _+_, _*_, _≤_, _<_}
 use native.Mathlib.Omega.{arith}
 use borrow.Author.Tests.{leb-true, le-leb}
-use lib.Dec.{leb, ltb, eqb}
+use lib.Dec.{leb}
 use Rattle.setup.specs.declared.GwrBandwidth.{GwrBandwidth}
 use Rattle.setup.specs.declared.GwrBandwidth.the-variants.{Fixed, AdaptiveKnn}
 use Rattle.setup.specs.declared.Setup.{Setup}
+use Rattle.setup.specs.Data.{Data}
 use Rattle.setup.specs.Shape.{Sized}
 use Rattle.checks.specs.Judge.{Means}
 use Rattle.checks.proofs.Means.{and-means, equal-means, below-means}
 use Rattle.stepping.specs.declared.Stage.{Stage}
 use Rattle.stepping.specs.declared.Stage.the-variants.{First, Second, Round, Final, Ended}
 use Rattle.stepping.specs.declared.Job.{Job}
+use Rattle.stepping.specs.Step.{isEnded, stepJob}
 use Rattle.stepping.specs.Sound.{OfKind, TrialsAt, endedSolve, Sound}
 use Rattle.stepping.proofs.Sounds.{trials-few}
+use Rattle.stepping.proofs.Keeping.{step-held}
 use Rattle.job.specs.Fitness.{sizesFit, kindsFit, trialsFit, solvesFit, isFit}
 
 most-means : (a b : ℕ) → Means (leb a b) (a ≤ b)
@@ -62,6 +65,10 @@ fit-means j =
       λ e. let h = m .0 e in record { sized = h .0 .0; within = h .0 .1; kind = h .1 .0; solves = h .1 .1 .1; trials = h .1 .1 .0 },
       λ s. m .1 ((s .sized, s .within), (s .kind, (s .trials, s .solves))),
     )
+
+-- a step leaves a fit record fit
+pub fit-stays : (d : Data) (j : Job) → isFit j ≡ true → isEnded (j .stage) ≡ false → isFit (stepJob d j) ≡ true
+fit-stays d j e live = fit-means (stepJob d j) .1 (step-held d j (fit-means j .0 e) live)
 
 pub ended-few : (x : Stage) → endedSolve x ≤ 1
 ended-few First = omega arith

@@ -12,7 +12,7 @@ use Rattle.refusal.specs.declared.Refusal.the-variants.{UnfitRecord, AlreadyEnd
 use Rattle.setup.specs.declared.Setup.{Setup}
 use Rattle.setup.specs.Bandwidth.{Usable}
 use Rattle.setup.specs.Data.{Data}
-use Rattle.setup.specs.Shape.{Sized, Shaped}
+use Rattle.setup.specs.Shape.{Shaped}
 use Rattle.criterion.specs.declared.Criterion.{Criterion}
 use Rattle.checks.specs.declared.Check.{Check}
 use Rattle.checks.specs.declared.Check.the-variants as check
@@ -26,7 +26,7 @@ use Rattle.stepping.specs.declared.Stage.{Stage}
 use Rattle.stepping.specs.declared.Stage.the-variants.{Ended}
 use Rattle.stepping.specs.declared.Job.{Job}
 use Rattle.stepping.specs.Step.{isEnded, stepOf, isOver}
-use Rattle.stepping.specs.Sound.{endedSolve, Sound}
+use Rattle.stepping.specs.Sound.{Sound}
 use Rattle.stepping.proofs.Sounds.{sound-usable}
 use Rattle.stepping.proofs.Keeping.{held-live, sound-held, Holds, holds-step}
 use Rattle.job.specs.declared.Answer.{Answer}

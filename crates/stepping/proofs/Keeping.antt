@@ -1,5 +1,5 @@
 -- A step of a sound record leaves a sound one, ended or not, with the same setup, and the output as long as it was.
-use mathlib.Core.Path.{_≡_, refl, sym, ap, subst, subst⁻¹, _∙_}
+use mathlib.Core.Path.{_≡_, refl, subst, subst⁻¹, _∙_}
 use mathlib.Core.Bool.{Bool, true, false, cond, _||_, true≢false}
 use mathlib.Core.List.{List}
 use Prim.Native.Nat.{ℕ, _+_, _*_, _≤_, _<_}

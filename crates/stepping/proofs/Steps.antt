@@ -1,5 +1,5 @@
 -- The arms of a step's code.
-use mathlib.Core.Path.{_≡_, refl, sym, ap, _∙_}
+use mathlib.Core.Path.{_≡_, sym, ap, _∙_}
 use mathlib.Core.Bool.{Bool, true, false, cond}
 use mathlib.Core.List.{List}
 use Prim.Native.Nat.{ℕ, _+_, _*_, _≤_}
@@ -21,7 +21,7 @@ use Rattle.sweep.specs.declared.Sweep.{Sweep}
 use Rattle.sweep.specs.Sweep.{addValues, nextLocation, rowAfter, RoomFor}
 use Rattle.sweep.proofs.Sweeps.{pair}
 use Rattle.stepping.specs.declared.Stage.{Stage}
-use Rattle.stepping.specs.declared.Stage.the-variants.{First, Second, Round, Final, Ended}
+use Rattle.stepping.specs.declared.Stage.the-variants.{Second, Round, Final}
 use Rattle.stepping.specs.declared.Job.{Job}
 use Rattle.stepping.specs.Step.{isFinal, nextSweep, closeFirst, closeSecond, isLastRound, closeRound, closeAt, closeJob, solvedJob, passJob, afterOutcome, solveOf, stepJob, stepOut, stepOf}
 

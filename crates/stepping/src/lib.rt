@@ -1,6 +1,6 @@
 // The job record, and its step: a fit that is made a local solve at a time.
 ghost use mathlib.Core.Path.{_≡_};
-ghost use Prim.Native.Nat.{_+_, _*_, _≤_, _<_};
+ghost use Prim.Native.Nat.{_+_, _*_, _≤_};
 ghost use lib.ListN.{length};
 ghost use Rattle.setup.specs.Data.{dataOf};
 ghost use Rattle.setup.specs.Shape.{Shaped};

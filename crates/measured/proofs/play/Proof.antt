@@ -8,7 +8,6 @@ use lib.Ieee.{Float}
 use Rattle.real.proofs.Fold.{Range, none, more, done}
 use Rattle.setup.specs.Data.{dataOf}
 use Rattle.job.specs.declared.Turned.{Turned}
-use Rattle.job.specs.Turn.{turnOf}
 use Rattle.measured.specs.Turns.{turned, playOf}
 use Rattle.measured.proofs.play.Statement.{statement}
 use Rattle.measured.proofs.play.Tie as tie

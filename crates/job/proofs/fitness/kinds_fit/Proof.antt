@@ -1,6 +1,5 @@
 -- `job::fitness::kinds_fit`: by the two kinds.
 use borrow.Author.Needs.{needs}
-use mathlib.Core.Path.{sym}
 use Rattle.job.specs.Fitness.{kindsFit}
 use Rattle.job.proofs.fitness.kinds_fit.Statement.{statement}
 use Rattle.job.proofs.fitness.kinds_fit.Tie as tie

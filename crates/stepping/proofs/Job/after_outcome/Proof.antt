@@ -1,6 +1,6 @@
 -- `stepping::Job::after_outcome`: by the outcome.
 use borrow.Author.Needs.{needs}
-use mathlib.Core.Path.{_≡_, refl, ap}
+use mathlib.Core.Path.{refl, ap}
 use Rattle.sweep.specs.declared.Sweep.{Sweep}
 use Rattle.stepping.proofs.Sounds.{solved-sound, is-sound}
 use Rattle.stepping.proofs.Steps.{outcome-found, outcome-refused}
