@@ -127,12 +127,12 @@ pub fn round_into(x: f64, lo: usize, hi: usize) -> usize
 pub fn max_count(a: usize, b: usize) -> usize
     ensures { λ r. ⌜ r ≡ max a b ⌝ }
 {
-    if a < b { b } else { a }
+    if b < a { a } else { b }
 }
 
 // The lesser of two counts.
 pub fn min_count(a: usize, b: usize) -> usize
     ensures { λ r. ⌜ r ≡ min a b ⌝ }
 {
-    if b < a { b } else { a }
+    if a < b { a } else { b }
 }
