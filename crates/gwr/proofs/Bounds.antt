@@ -1,8 +1,8 @@
 -- Which inputs the fit refuses, and what is known of its answer: its rows lie within the output, its solves are few, and one that is fitted has all its rows.
-use mathlib.Core.Path.{_≡_, refl, ap, _∙_}
+use mathlib.Core.Path.{_≡_, refl, ap}
 use mathlib.Core.Bool.{true}
 use mathlib.Core.List.{List}
-use Prim.Native.Nat.{ℕ, _+_, _*_, _/_, _≤_}
+use Prim.Native.Nat.{ℕ, _+_, _*_, _≤_}
 use native.Mathlib.Nat.{mul-le-mul, mul-le-mul-right}
 use native.Mathlib.Omega.{arith}
 use lib.ListN.{length}
@@ -16,7 +16,7 @@ use Rattle.setup.specs.Shape.{setupOf}
 use Rattle.criterion.specs.declared.Criterion.{Criterion}
 use Rattle.criterion.specs.declared.Criterion.the-variants as criterion
 use Rattle.criterion.specs.Aicc.{correctedAic}
-use Rattle.checks.specs.Judge.{FirstOf, NoneOf, Decides}
+use Rattle.checks.specs.Judge.{Decides}
 use Rattle.plan.specs.declared.Plan.{Plan}
 use Rattle.plan.specs.declared.Plan.the-variants.{Settled, Sought}
 use Rattle.plan.specs.declared.Acceptance.{Acceptance}
