@@ -61,7 +61,7 @@ module _ (d : Data) (p : ℕ) (o : GwrOptions) (out : List Float) where
 
   final-sound : (s : Swept) (c : Course) (b : GwrBandwidth) (solves : ℕ) → ReachedAt u d b c (u .n) (s .sweep) → 1 ≤ length out → solves ≤ 52736
       → Sound (Done (finishOf (endingAt c u (s .sweep)) b solves)) (s .sweep .location) (u .n) (length out)
-  final-sound s Going b solves r h k = finish-sound (correctedAic (u .n) (s .sweep .squares) (s .sweep .trace)) b solves (s .sweep .location) (u .n) (length out) h k r
+  final-sound s Going b solves r h k = finish-sound (correctedAic u (s .sweep .squares) (s .sweep .trace)) b solves (s .sweep .location) (u .n) (length out) h k r
   final-sound s (Stopped q) b solves r h k = (h, k)
 
   final-fits : (b : GwrBandwidth) (before : ℕ) → Accepted d p o (length out) → before ≤ 512 * 102 → Fits (u .n) p (length out) (finalOf u d b before out)
