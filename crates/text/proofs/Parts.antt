@@ -4,7 +4,7 @@ use mathlib.Core.List.{List, [], _∷_, _++_, append-nil}
 use Prim.Native.Nat.{ℕ, zero, suc, _+_, _*_, _≤_, _<_}
 use native.Mathlib.Omega.{arith}
 use lib.ListN.{length, set, length-append, length-set}
-use Rattle.text.specs.Listing.{hexIn, hexDigits, decimalIn, decimal, bitsText, countText, bitsTexts, fitWord, fitZero, rowWord, newline, refusedLine, summaryLine, rowLine, loads, WrittenText}
+use Rattle.text.specs.Listing.{hexIn, decimalIn, bitsText, countText, bitsTexts, fitWord, fitZero, rowWord, newline, refusedLine, summaryLine, rowLine, loads, WrittenText}
 use Rattle.text.proofs.Lines.{byte, and-then, and-byte}
 use Rattle.text.proofs.Lengths.{length-hexIn, length-decimalIn, length-bitsText, length-countText, length-bitsTexts, length-loads}
 
@@ -16,11 +16,11 @@ module _ (v : ℕ) {d₀ : List ℕ} {at : ℕ} {d : List ℕ} {e : ℕ} where
   count-end w = omega (arith, length-countText v)
 
   pub bits-after-space : WrittenText (set d₀ at 32) (at + 1) (hexIn 16 v) d e → at + 17 ≤ length d₀ → WrittenText d₀ at (bitsText v) d e
-  unfolding bitsText hexDigits
+  unfolding bitsText
   bits-after-space w h = and-then (byte 32 (omega arith)) w (omega (arith, length-hexIn 16 v))
 
   pub count-after-space : WrittenText (set d₀ at 32) (at + 1) (decimalIn 6 v) d e → at + 7 ≤ length d₀ → WrittenText d₀ at (countText v) d e
-  unfolding countText decimal
+  unfolding countText
   count-after-space w h = and-then (byte 32 (omega arith)) w (omega (arith, length-decimalIn 6 v))
 
 -- whole lines: a word, numbers, and the line feed, before which there is room
