@@ -5,7 +5,7 @@ use mathlib.Core.List.{List}
 use Prim.Native.Nat.{ℕ, _+_, _*_, _/_, _≤_}
 use native.Mathlib.Nat.{mul-le-mul}
 use native.Mathlib.Omega.{arith}
-use borrow.Author.Tests.{ltb-false, le-ltb}
+use borrow.Author.Tests.{ltb-false}
 use lib.Dec.{ltb}
 use lib.ListN.{length, take, replicate}
 use lib.Ieee.{Float}
@@ -27,7 +27,7 @@ use Rattle.calls.specs.declared.Choice.{Choice}
 use Rattle.calls.specs.declared.Choice.the-variants as choice
 use Rattle.calls.specs.declared.KernelChoice.{KernelChoice}
 use Rattle.calls.specs.Options.{kernelOf, isUnknownKernel, namedKernel, kindOf, optionsOf}
-use Rattle.calls.specs.Calls.{AfterCall, refusedCall, placedRows, answerBytes, fittedBytes, fitParts, roomOf, summaryBytes, placedWeight, Writable, Roomy, Offered}
+use Rattle.calls.specs.Calls.{AfterCall, placedRows, answerBytes, fittedBytes, fitParts, roomOf, summaryBytes, placedWeight, Writable, Roomy, Offered}
 use Rattle.gwr.proofs.Bounds.{Sound, Fits, fits}
 
 pub triple : {n m : ℕ} {a b c d : List ℕ} → n ≡ m → a ≡ b → c ≡ d → _≡_ {A = AfterCall} (n, (a, c)) (m, (b, d))

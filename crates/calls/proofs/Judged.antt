@@ -5,12 +5,12 @@ use mathlib.Core.List.{List, [], _∷_, _++_, append-assoc}
 use Prim.Native.Nat.{ℕ, _+_, _*_, _/_, _%_, _≤_, _<_}
 use native.Mathlib.Nat.{mul-le-mul}
 use native.Mathlib.Omega.{arith}
-use borrow.Author.Tests.{ltb-true, ltb-false, eqb-true, eqb-false, not-false, eq-eqb, ne-eqb, lt-ltb, le-ltb}
-use lib.Dec.{eqb, ltb}
+use borrow.Author.Tests.{ltb-false, eqb-true, eqb-false, not-false, eq-eqb, ne-eqb, lt-ltb, le-ltb}
+use lib.Dec.{ltb}
 use lib.ListN.{length, replicate, length-replicate}
 use lib.Ieee.{Float, le}
 use Rattle.real.specs.Reals.{zero64}
-use Rattle.wire.specs.Wire.{realOf, reals}
+use Rattle.wire.specs.Wire.{realOf}
 use Rattle.wire.proofs.Decoding.{length-reals}
 use Rattle.refusal.specs.declared.Refusal.{Refusal}
 use Rattle.refusal.specs.declared.Refusal.the-variants.{TooFewObservations, OutputTooShort, CoordinateNotFinite, UnknownNumber}
@@ -23,16 +23,14 @@ use Rattle.setup.specs.Data.{Data}
 use Rattle.setup.specs.Shape.{setupOf}
 use Rattle.checks.specs.declared.Check.{Check}
 use Rattle.checks.specs.declared.Check.the-variants as check
-use Rattle.checks.specs.Judge.{judge, ruled, FirstOf, NoneOf, Decides}
+use Rattle.checks.specs.Judge.{judge, ruled, NoneOf, Decides}
 use Rattle.checks.proofs.Judge.{ruled-append, ruled-refused, ruled-pass, none-head, none-append, decides}
 use Rattle.plan.specs.Checks.{shapeTests, valueTests, outputTests, inputTests, optionTests, fitTests}
 use Rattle.gwr.specs.declared.Fit.{Fit}
 use Rattle.gwr.specs.Fit.{gwrFit}
-use Rattle.calls.specs.declared.Choice.{Choice}
 use Rattle.calls.specs.declared.Choice.the-variants as choice
-use Rattle.calls.specs.declared.KernelChoice.{KernelChoice}
 use Rattle.calls.specs.declared.KernelChoice.the-variants as kernel
-use Rattle.calls.specs.Options.{kernelOf, isUnknownKernel, namedKernel, optionsOf, isUnknown, named}
+use Rattle.calls.specs.Options.{kernelOf, namedKernel, optionsOf, named}
 use Rattle.calls.specs.Calls.{partTests, byteTests, numbersOf, lentTooShort, numberTests, callTests, AfterCall, refusedCall, fittedBytes, numbersFit, fitBytes, distanceTests, weightTests, refusedWeight, givenWeight, weightBytes, roomOf, fitParts, ByteLengths, placedWeight, weighedBytes}
 use Rattle.gwr.proofs.Bounds.{fit-decides}
 

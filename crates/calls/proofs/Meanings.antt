@@ -1,11 +1,11 @@
 -- What the calls' own tests ask, in plain mathematics: 18 of numbers, 13 of bytes, 9 of a distance.
-use mathlib.Core.Path.{_≡_, refl, sym, subst, subst⁻¹, _∙_}
+use mathlib.Core.Path.{_≡_, refl, sym, subst, subst⁻¹}
 use mathlib.Core.Bool.{Bool, true, false, cond, not, true≢false}
 use mathlib.Core.Logic.{_⊎_, inl, inr}
 use Prim.Native.Nat.{ℕ, _+_, _*_, _≤_, _<_}
 use native.Mathlib.Omega.{arith}
-use borrow.Author.Tests.{eqb-true, eqb-false, not-true, not-false}
-use lib.Dec.{T, eqb, ltb}
+use borrow.Author.Tests.{eqb-true, eqb-false}
+use lib.Dec.{T, eqb}
 use lib.Ieee.{Float, nan, inf, fin, lt, le, eq, isNan, ofBits}
 use Rattle.real.specs.Reals.{zero64}
 use Rattle.real.proofs.SignedOrder.{apart, nlt→le}

@@ -3,7 +3,6 @@ use mathlib.Core.Path.{_≡_, refl, sym, ap, _∙_}
 use mathlib.Core.Bool.{Bool, true, false, _||_}
 use mathlib.Core.List.{List, _++_}
 use Prim.Native.Nat.{ℕ, _+_, _*_, _/_, _-_, _≤_}
-use native.Mathlib.Nat.{mul-le-mul-right}
 use native.Mathlib.Omega.{arith}
 use borrow.Author.Tests.{ltb-false}
 use lib.Dec.{ltb}
@@ -28,7 +27,7 @@ use Rattle.gwr.specs.declared.FitAnswer.the-variants.{Done, Rejected}
 use Rattle.gwr.specs.declared.Fit.{Fit}
 use Rattle.gwr.proofs.Bounds.{fits}
 use Rattle.calls.specs.Options.{optionsOf, isUnknown, named}
-use Rattle.calls.specs.Calls.{byteTests, numbersOf, lentTooShort, numberTests, callTests, AfterCall, summaryBytes, placedRows, answerBytes, fittedBytes, numbersFit, fitBytes, ByteLengths}
+use Rattle.calls.specs.Calls.{byteTests, numbersOf, numberTests, callTests, AfterCall, summaryBytes, placedRows, answerBytes, numbersFit, fitBytes, ByteLengths}
 use Rattle.calls.proofs.Judged.{passed, room-enough, fit-judged, call-decides}
 
 -- ---- bytes behind those that are placed

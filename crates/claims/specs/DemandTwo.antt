@@ -157,17 +157,17 @@ pub record DemandTwo : Type 1 where
   -- ---- AICc: Fotheringham, Brunsdon and Charlton 2002
 
   -- the published formula in 000's order, each operation rounded once: the operations and 2 as above, the root the nearest to the exact one (`root-nearest`), ln by 01's steps
-  pub aicc-formula : (n : ℕ) (rss trace : Float) →
-      let sigma = deviation rounded root (fromCount n) rss in
-      T (finite sigma) → T (not (le sigma zero64)) → T (not (exhausted (freedom rounded (fromCount n) trace)))
-      → correctedAic n rss trace ≡ criterion.Value (aiccFormula rounded pi64 lnv (fromCount n) sigma trace)
+  pub aicc-formula : (u : Setup) (rss trace : Float) →
+      let sigma = deviation rounded root (fromCount (u .n)) rss in
+      T (finite sigma) → T (not (le sigma zero64)) → T (not (exhausted (freedom rounded (fromCount (u .n)) trace)))
+      → correctedAic u rss trace ≡ criterion.Value (aiccFormula rounded pi64 lnv (fromCount (u .n)) sigma trace)
   -- 000's order is that of the publication where a product and a quotient may change places, as exact fractions do, whatever stands for π and ln
   pub aicc-order : (pi : Fraction) (ln : Fraction → Fraction) (n sigma trace : Fraction)
       → aiccPublished exact pi ln n sigma trace ≡ aiccFormula exact pi ln n sigma trace
   -- the listed spots: a root of mean square of 0 is replaced by 2^-1022, |D| ≤ EPS gives +infinity, and one not finite is refusal 17
-  pub aicc-zero : (n : ℕ) (rss trace : Float) →
-      let sigma = deviation rounded root (fromCount n) rss in
-      T (finite sigma) → T (le sigma zero64) → T (not (exhausted (freedom rounded (fromCount n) trace)))
-      → correctedAic n rss trace ≡ criterion.Value (aiccFormula rounded pi64 lnv (fromCount n) leastNormal trace)
-  pub aicc-exhausted : (n : ℕ) (rss trace : Float) → T (finite (deviation rounded root (fromCount n) rss)) → T (exhausted (freedom rounded (fromCount n) trace)) → correctedAic n rss trace ≡ criterion.Value inf64
-  pub aicc-refused : (n : ℕ) (rss trace : Float) → T (not (finite (deviation rounded root (fromCount n) rss))) → correctedAic n rss trace ≡ criterion.Refused DeviationNotFinite
+  pub aicc-zero : (u : Setup) (rss trace : Float) →
+      let sigma = deviation rounded root (fromCount (u .n)) rss in
+      T (finite sigma) → T (le sigma zero64) → T (not (exhausted (freedom rounded (fromCount (u .n)) trace)))
+      → correctedAic u rss trace ≡ criterion.Value (aiccFormula rounded pi64 lnv (fromCount (u .n)) leastNormal trace)
+  pub aicc-exhausted : (u : Setup) (rss trace : Float) → T (finite (deviation rounded root (fromCount (u .n)) rss)) → T (exhausted (freedom rounded (fromCount (u .n)) trace)) → correctedAic u rss trace ≡ criterion.Value inf64
+  pub aicc-refused : (u : Setup) (rss trace : Float) → T (not (finite (deviation rounded root (fromCount (u .n)) rss))) → correctedAic u rss trace ≡ criterion.Refused DeviationNotFinite

@@ -7,6 +7,7 @@ use Rattle.real.specs.Reals.{zero64, eps64, leastNormal, inf64, fromCount, magn
 use Rattle.real.specs.Arithmetic.{rounded}
 use Rattle.root.specs.Root.{root}
 use Rattle.elementary.specs.Ln.{lnv}
+use Rattle.setup.specs.declared.Setup.{Setup}
 use Rattle.refusal.specs.declared.Refusal.the-variants.{DeviationNotFinite}
 use Rattle.criterion.specs.declared.Criterion.{Criterion}
 use Rattle.criterion.specs.declared.Criterion.the-variants.{Value, Refused}
@@ -29,11 +30,11 @@ exhausted d = le (magnitude d) eps64
 unfoldable pub criterionOf : Float → Float → Float → Float
 criterionOf nf sigma trace = cond (exhausted (freedom rounded nf trace)) inf64 (aiccFormula rounded pi64 lnv nf (floored sigma) trace)
 
--- 000's `corrected_aic`, of n, the sum of squared residuals and the trace; refusal 17 where the root of mean square is not finite
-unfoldable pub correctedAic : ℕ → Float → Float → Criterion
-correctedAic n rss trace =
-    let sigma = deviation rounded root (fromCount n) rss in
-    cond (finite sigma) (Value (criterionOf (fromCount n) sigma trace)) (Refused DeviationNotFinite)
+-- 000's `corrected_aic`, of a job's setup, the sum of squared residuals and the trace; refusal 17 where the root of mean square is not finite
+unfoldable pub correctedAic : Setup → Float → Float → Criterion
+correctedAic u rss trace =
+    let sigma = deviation rounded root (fromCount (u .n)) rss in
+    cond (finite sigma) (Value (criterionOf (fromCount (u .n)) sigma trace)) (Refused DeviationNotFinite)
 
 -- 000's `evaluate_aicc`: a trial's score is its AICc, or +infinity if AICc is refused or not finite
 unfoldable pub scoreOf : Criterion → Float

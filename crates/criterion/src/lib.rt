@@ -6,6 +6,7 @@ ghost use Rattle.elementary.specs.Ln.{lnv};
 ghost use Rattle.criterion.specs.Published.{freedom, aiccFormula};
 ghost use Rattle.criterion.specs.Aicc.{pi64, correctedAic, criterionOf, exhausted, floored, scoreOf, failedSummary};
 use refusal::Refusal;
+use setup::Setup;
 
 pub enum Criterion {
     Value(f64),
@@ -50,11 +51,11 @@ impl Criterion {
 }
 
 // AICc of n observations from the sum of squared residuals and the trace of the hat matrix.
-pub fn corrected_aic(n: usize, rss: f64, trace: f64) -> Criterion
-    requires { ⌜ n < 2 ^ 32 ⌝ }
-    ensures { λ r. ⌜ r ≡ correctedAic n rss trace ⌝ }
+pub fn corrected_aic(u: Setup, rss: f64, trace: f64) -> Criterion
+    requires { ⌜ u .n < 2 ^ 32 ⌝ }
+    ensures { λ r. ⌜ r ≡ correctedAic u rss trace ⌝ }
 {
-    let nf = real::from_count(n);
+    let nf = real::from_count(u.n);
     let sigma = root::sqrt(rss / nf);
     if real::is_finite(sigma) {
         return Criterion::Value(criterion_of(nf, sigma, trace));

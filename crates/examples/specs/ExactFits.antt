@@ -14,7 +14,7 @@ use Rattle.real.specs.Matrix.{Row}
 use Rattle.estimate.specs.declared.Estimate.the-variants.{Fitted}
 use Rattle.estimate.specs.Estimate.{fitCoefficients}
 use Rattle.estimate.specs.NormalEquations.{ExactFit, Solves}
-use Rattle.examples.specs.Examples.{whole}
+use Rattle.examples.specs.Examples.{wholeNumber}
 
 -- n observations, p predictors each in x, responses y and weights w, and the coefficients
 pub record Family : Type 0 where
@@ -46,33 +46,33 @@ abbrev pub meanOfTwo : Family
 meanOfTwo =
     record {
       x = [];
-      y = whole 2 ∷ (whole 6 ∷ []);
-      w = whole 1 ∷ (whole 3 ∷ []);
+      y = wholeNumber 2 ∷ (wholeNumber 6 ∷ []);
+      w = wholeNumber 1 ∷ (wholeNumber 3 ∷ []);
       n = 2;
       p = 0;
-      beta = whole 5 ∷ replicate 7 zero64;
+      beta = wholeNumber 5 ∷ replicate 7 zero64;
     }
 
 -- 2, 3 and 8 at 0, 1 and 2 of weights 1, 2 and 1: the line 1 + 3 x, which meets none of them
 abbrev pub lineOfThree : Family
 lineOfThree =
     record {
-      x = whole 0 ∷ (whole 1 ∷ (whole 2 ∷ []));
-      y = whole 2 ∷ (whole 3 ∷ (whole 8 ∷ []));
-      w = whole 1 ∷ (whole 2 ∷ (whole 1 ∷ []));
+      x = wholeNumber 0 ∷ (wholeNumber 1 ∷ (wholeNumber 2 ∷ []));
+      y = wholeNumber 2 ∷ (wholeNumber 3 ∷ (wholeNumber 8 ∷ []));
+      w = wholeNumber 1 ∷ (wholeNumber 2 ∷ (wholeNumber 1 ∷ []));
       n = 3;
       p = 1;
-      beta = whole 1 ∷ (whole 3 ∷ replicate 6 zero64);
+      beta = wholeNumber 1 ∷ (wholeNumber 3 ∷ replicate 6 zero64);
     }
 
 -- 1, 2, 4 and 9 at the corners of a square: the plane 4 + 5/2 x + 3/2 y
 abbrev pub planeOfFour : Family
 planeOfFour =
     record {
-      x = minusOne ∷ (minusOne ∷ (minusOne ∷ (whole 1 ∷ (whole 1 ∷ (minusOne ∷ (whole 1 ∷ (whole 1 ∷ [])))))));
-      y = whole 1 ∷ (whole 2 ∷ (whole 4 ∷ (whole 9 ∷ [])));
-      w = replicate 4 (whole 1);
+      x = minusOne ∷ (minusOne ∷ (minusOne ∷ (wholeNumber 1 ∷ (wholeNumber 1 ∷ (minusOne ∷ (wholeNumber 1 ∷ (wholeNumber 1 ∷ [])))))));
+      y = wholeNumber 1 ∷ (wholeNumber 2 ∷ (wholeNumber 4 ∷ (wholeNumber 9 ∷ [])));
+      w = replicate 4 (wholeNumber 1);
       n = 4;
       p = 2;
-      beta = whole 4 ∷ (fin false 5 (negsuc 0) ∷ (fin false 3 (negsuc 0) ∷ replicate 5 zero64));
+      beta = wholeNumber 4 ∷ (fin false 5 (negsuc 0) ∷ (fin false 3 (negsuc 0) ∷ replicate 5 zero64));
     }

@@ -1,8 +1,8 @@
 -- Which inputs the fit refuses, and what is known of its answer: its rows lie within the output, its solves are few, and one that is fitted has all its rows.
-use mathlib.Core.Path.{_≡_, refl, ap, _∙_}
+use mathlib.Core.Path.{_≡_, refl, ap}
 use mathlib.Core.Bool.{true}
 use mathlib.Core.List.{List}
-use Prim.Native.Nat.{ℕ, _+_, _*_, _/_, _≤_}
+use Prim.Native.Nat.{ℕ, _+_, _*_, _≤_}
 use native.Mathlib.Nat.{mul-le-mul, mul-le-mul-right}
 use native.Mathlib.Omega.{arith}
 use lib.ListN.{length}
@@ -16,7 +16,7 @@ use Rattle.setup.specs.Shape.{setupOf}
 use Rattle.criterion.specs.declared.Criterion.{Criterion}
 use Rattle.criterion.specs.declared.Criterion.the-variants as criterion
 use Rattle.criterion.specs.Aicc.{correctedAic}
-use Rattle.checks.specs.Judge.{FirstOf, NoneOf, Decides}
+use Rattle.checks.specs.Judge.{Decides}
 use Rattle.plan.specs.declared.Plan.{Plan}
 use Rattle.plan.specs.declared.Plan.the-variants.{Settled, Sought}
 use Rattle.plan.specs.declared.Acceptance.{Acceptance}
@@ -61,7 +61,7 @@ module _ (d : Data) (p : ℕ) (o : GwrOptions) (out : List Float) where
 
   final-sound : (s : Swept) (c : Course) (b : GwrBandwidth) (solves : ℕ) → ReachedAt u d b c (u .n) (s .sweep) → 1 ≤ length out → solves ≤ 52736
       → Sound (Done (finishOf (endingAt c u (s .sweep)) b solves)) (s .sweep .location) (u .n) (length out)
-  final-sound s Going b solves r h k = finish-sound (correctedAic (u .n) (s .sweep .squares) (s .sweep .trace)) b solves (s .sweep .location) (u .n) (length out) h k r
+  final-sound s Going b solves r h k = finish-sound (correctedAic u (s .sweep .squares) (s .sweep .trace)) b solves (s .sweep .location) (u .n) (length out) h k r
   final-sound s (Stopped q) b solves r h k = (h, k)
 
   final-fits : (b : GwrBandwidth) (before : ℕ) → Accepted d p o (length out) → before ≤ 512 * 102 → Fits (u .n) p (length out) (finalOf u d b before out)

@@ -27,12 +27,11 @@ use Rattle.plan.specs.Checks.{valueTests, optionTests, fitTests}
 use Rattle.gwr.specs.declared.Fit.{Fit}
 use Rattle.gwr.specs.Fit.{gwrFit}
 use Rattle.gwr.proofs.Bounds.{Sound, fits}
-use Rattle.calls.specs.Options.{optionsOf, isUnknown, named}
+use Rattle.calls.specs.Options.{optionsOf, isUnknown}
 use Rattle.calls.specs.Calls.{byteTests, numbersOf, lentTooShort, numberTests, callTests, AfterCall, refusedCall, fittedBytes, numbersFit, fitBytes, ByteLengths}
 use Rattle.calls.proofs.Judged.{lengths-pass, call-decides}
 use Rattle.calls.proofs.Served.{call-passed}
 use Rattle.listing.specs.declared.Head.{Head}
-use Rattle.listing.specs.declared.Header.{Header}
 use Rattle.listing.specs.declared.Header.the-variants.{Whole, Refused}
 use Rattle.listing.specs.Headers.{headOf, headerTests, headerOf}
 use Rattle.listing.specs.Jobs.{placesEnd, predictorsEnd, responsesEnd, cutTests, refusedText, answerText, callOfParts, wholeText, jobText}

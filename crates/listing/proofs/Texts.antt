@@ -1,7 +1,7 @@
 -- Headers and texts, case by case.
 use mathlib.Core.Path.{_≡_, refl, sym, ap, subst, _∙_}
-use mathlib.Core.Bool.{Bool, false}
-use mathlib.Core.List.{List, _∷_, _++_}
+use mathlib.Core.Bool.{false}
+use mathlib.Core.List.{List}
 use Prim.Native.Nat.{ℕ, _+_, _*_, _-_, _≤_, _<_}
 use native.Mathlib.Omega.{arith}
 use borrow.Author.Tests.{eqb-false, ltb-false, lt-ltb, le-ltb}
@@ -20,7 +20,7 @@ use Rattle.checks.specs.Judge.{judge, ruled, FirstOf, NoneOf}
 use Rattle.checks.proofs.Judge.{ruled-refused, ruled-pass, none-head}
 use Rattle.calls.specs.declared.Choice.{Choice}
 use Rattle.calls.specs.declared.Choice.the-variants as choice
-use Rattle.calls.specs.Options.{optionsOf, isUnknown, named}
+use Rattle.calls.specs.Options.{optionsOf, isUnknown}
 use Rattle.calls.specs.Calls.{AfterCall, fitBytes}
 use Rattle.calls.proofs.Counts.{Answered, answered}
 use Rattle.listing.specs.declared.Head.{Head}

@@ -24,12 +24,12 @@ abbrev pub optionsBy : ℕ → GwrOptions
 optionsBy k = record { kernel = kernelBy k; bandwidth = Fixed (ofBits binary64 0x4079_0000_0000_0000); «optimize_bandwidth» = false }
 
 -- one turn of the allowance a: the record and the output after it
-unfoldable pub turned : Data → ℕ → ℕ → Job × List Float → Job × List Float
-turned d a i s = let t = turnOf (s .0) d (s .1) a in (t .0 .job, t .1)
+unfoldable pub turnBy : Data → ℕ → ℕ → Job × List Float → Job × List Float
+turnBy d a i s = let t = turnOf (s .0) d (s .1) a in (t .0 .job, t .1)
 
 -- so many of them
 unfoldable pub playOf : Data → ℕ → ℕ → Job × List Float → Job × List Float
-playOf d a turns s = range (turned d a) 0 turns s
+playOf d a turns s = range (turnBy d a) 0 turns s
 
 -- from beginning: the solves made, and the output
 unfoldable pub turnsOf : Data → ℕ → ℕ → ℕ → ℕ → List Float → ℕ × List Float

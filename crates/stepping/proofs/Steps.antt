@@ -60,9 +60,9 @@ module _ (j : Job) where
 
   module _ (w : Sweep) where
     abbrev over : Job
-    over = closeJob (solvedJob j w) (correctedAic (j .setup .n) (w .squares) (w .trace))
+    over = closeJob (solvedJob j w) (correctedAic (j .setup) (w .squares) (w .trace))
 
-    pub pass-last : (k : Job) (c : Criterion) (r : Job) → w .location + 1 ≡ j .setup .n → k ≡ solvedJob j w → c ≡ correctedAic (j .setup .n) (w .squares) (w .trace)
+    pub pass-last : (k : Job) (c : Criterion) (r : Job) → w .location + 1 ≡ j .setup .n → k ≡ solvedJob j w → c ≡ correctedAic (j .setup) (w .squares) (w .trace)
         → r ≡ closeJob k c → r ≡ passJob j w
     unfolding passJob
     pass-last k c r e hk hc hr =

@@ -100,7 +100,7 @@ solvedJob j w =
 -- after location n - 1 the sweep is over, with its AICc or refusal 17
 unfoldable pub passJob : Job → Sweep → Job
 passJob j w =
-    cond (eqb (w .location + 1) (j .setup .n)) (closeJob (solvedJob j w) (correctedAic (j .setup .n) (w .squares) (w .trace)))
+    cond (eqb (w .location + 1) (j .setup .n)) (closeJob (solvedJob j w) (correctedAic (j .setup) (w .squares) (w .trace)))
     (solvedJob j (nextLocation w))
 
 -- 01: success: trace and squares are added. Failure: in a trial the score is +infinity, and the final fit ends with the refusal

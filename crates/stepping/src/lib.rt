@@ -198,10 +198,10 @@ impl Job {
         requires { ⌜ sweep .location ≡ self .sweep .location ⌝ }
         ensures { λ r. ⌜ r ≡ passJob self sweep ⌝ }
     {
-        let n = self.setup.n;
-        if sweep.location + 1 == n {
+        let setup = self.setup;
+        if sweep.location + 1 == setup.n {
             let over = self.solved(sweep);
-            return over.close(criterion::corrected_aic(n, sweep.squares, sweep.trace));
+            return over.close(criterion::corrected_aic(setup, sweep.squares, sweep.trace));
         }
         self.solved(sweep.next())
     }

@@ -81,7 +81,7 @@ solvesOf s = solvesAfter (s .course) (s .sweep .location)
 
 -- 01: if no refusal comes, the sweep's AICc or refusal 17 follows
 abbrev pub endingAt : Course → Setup → Sweep → Criterion
-endingAt Going u s = correctedAic (u .n) (s .squares) (s .trace)
+endingAt Going u s = correctedAic u (s .squares) (s .trace)
 endingAt (Stopped r) u s = criterion.Refused r
 
 abbrev pub endingOf : Setup → Swept → Criterion

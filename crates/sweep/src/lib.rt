@@ -108,7 +108,7 @@ impl Swept {
         let course = self.course;
         let sweep = self.sweep;
         match course {
-            Course::Going => criterion::corrected_aic(u.n, sweep.squares, sweep.trace),
+            Course::Going => criterion::corrected_aic(u, sweep.squares, sweep.trace),
             Course::Stopped(r) => Criterion::Refused(r),
         }
     }

@@ -33,12 +33,9 @@ unfoldable pub bitsTexts : List ℕ → List ℕ
 bitsTexts [] = []
 bitsTexts (v ∷ vs) = bitsText v ++ bitsTexts vs
 
--- "fit", "fit 0" and "row"
+-- "fit" and "row"
 abbrev pub fitWord : List ℕ
 fitWord = 102 ∷ 105 ∷ 116 ∷ []
-
-abbrev pub fitZero : List ℕ
-fitZero = 102 ∷ 105 ∷ 116 ∷ 32 ∷ 48 ∷ []
 
 abbrev pub rowWord : List ℕ
 rowWord = 114 ∷ 111 ∷ 119 ∷ []
@@ -50,9 +47,9 @@ newline = 10 ∷ []
 unfoldable pub refusedLine : ℕ → List ℕ
 refusedLine number = fitWord ++ countText number ++ newline
 
--- a fit's line: fit 0, the bandwidth's bits, those of AICc, how many solves
+-- a fit's line: fit, 0, the bandwidth's bits, those of AICc, how many solves
 unfoldable pub summaryLine : ℕ → ℕ → ℕ → List ℕ
-summaryLine bandwidth aicc solves = fitZero ++ bitsText bandwidth ++ bitsText aicc ++ countText solves ++ newline
+summaryLine bandwidth aicc solves = fitWord ++ countText 0 ++ bitsText bandwidth ++ bitsText aicc ++ countText solves ++ newline
 
 -- a row's line: row, its number, the bits of what it holds
 unfoldable pub rowLine : ℕ → List ℕ → List ℕ

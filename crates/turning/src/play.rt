@@ -85,24 +85,30 @@ fn play_data(
 fn ending_of(fit: Fit) -> Ending {
     let answer = fit.answer;
     match answer {
-        FitAnswer::Fitted(v) => Ending {
-            number: 0,
-            bandwidth: v.bandwidth,
-            aicc: v.aicc,
-            solves: v.solves,
-        },
-        FitAnswer::Failed(r, v) => Ending {
-            number: r.number(),
-            bandwidth: v.bandwidth,
-            aicc: v.aicc,
-            solves: v.solves,
-        },
+        FitAnswer::Done(f) => ending_with(f),
         FitAnswer::Rejected(r) => Ending {
             number: r.number(),
             bandwidth: 0.0,
             aicc: 0.0,
             solves: 0,
         },
+    }
+}
+
+// The end of a fit that was made.
+fn ending_with(f: Finish) -> Ending {
+    match f {
+        Finish::Fitted(s) => summed(0, s),
+        Finish::Failed(r, s) => summed(r.number(), s),
+    }
+}
+
+fn summed(number: u32, s: Summary) -> Ending {
+    Ending {
+        number,
+        bandwidth: s.bandwidth,
+        aicc: s.aicc,
+        solves: s.solves,
     }
 }
 

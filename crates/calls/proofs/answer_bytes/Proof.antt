@@ -1,6 +1,5 @@
 -- `calls::answer_bytes`: a refusal from the input writes nothing, a fit that was made its rows and its summary.
 use borrow.Author.Needs.{needs}
-use mathlib.Core.Path.{refl, sym, _∙_}
 use denote.Ref.{now}
 use lib.ListN.{length}
 use Rattle.calls.proofs.Answers.{answer-rejected, answer-failed, answer-fitted, answer-writable}

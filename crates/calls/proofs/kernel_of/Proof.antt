@@ -1,5 +1,4 @@
 -- `calls::kernel_of`: one need for each kernel, and one for the unknown.
-use borrow.Author.Needs.{needs}
 use borrow.Author.Tests.{eq-eqb, ne-eqb}
 use Rattle.calls.specs.Options.{kernelOf}
 use Rattle.calls.proofs.kernel_of.Statement.{statement}

@@ -1,6 +1,6 @@
 -- `calls::placed_weight`: the weight, or 0 with refusal 9.
 use borrow.Author.Needs.{needs}
-use mathlib.Core.Path.{refl, sym, ap, _∙_}
+use mathlib.Core.Path.{refl, ap, _∙_}
 use Prim.Native.Nat.{ℕ}
 use denote.Ref.{now}
 use Rattle.wire.specs.Wire.{bytesOf, placed}

@@ -58,13 +58,13 @@ Said (fit.Done (finish.Fitted v)) = Unit {0}
 Said (fit.Done (finish.Failed r v)) = InRange r
 Said (fit.Rejected r) = ⊥
 
-aic-said : (n : ℕ) (rss trace : Float) (b : GwrBandwidth) (solves : ℕ) → Said (fit.Done (finishOf (correctedAic n rss trace) b solves))
+aic-said : (u : Setup) (rss trace : Float) (b : GwrBandwidth) (solves : ℕ) → Said (fit.Done (finishOf (correctedAic u rss trace) b solves))
 unfolding correctedAic
-aic-said n rss trace b solves = either (λ (c : Criterion). Said (fit.Done (finishOf c b solves))) (finite (deviation rounded root (fromCount n) rss)) _ _ tt (omega arith, omega arith)
+aic-said u rss trace b solves = either (λ (c : Criterion). Said (fit.Done (finishOf c b solves))) (finite (deviation rounded root (fromCount (u .n)) rss)) _ _ tt (omega arith, omega arith)
 
-answer-said : (u : Setup) (d : Data) (b : GwrBandwidth) (searched : ℕ) (a : FitAnswer) (rows n : ℕ) → FitAnswered a (λ (i : ℕ). solveLocation u d b i .outcome) b searched rows n → Said a
-answer-said u d b searched a rows n (inl (l, r, e, h)) = subst⁻¹ Said h (location-number r (subst OutcomeAt e (location-at u d b rows)))
-answer-said u d b searched a rows n (inr (l, h)) = subst⁻¹ Said h (aic-said n _ _ b (searched + n))
+answer-said : (u : Setup) (d : Data) (b : GwrBandwidth) (searched : ℕ) (a : FitAnswer) (rows : ℕ) → FitAnswered a (λ (i : ℕ). solveLocation u d b i .outcome) b searched rows u → Said a
+answer-said u d b searched a rows (inl (l, r, e, h)) = subst⁻¹ Said h (location-number r (subst OutcomeAt e (location-at u d b rows)))
+answer-said u d b searched a rows (inr (l, h)) = subst⁻¹ Said h (aic-said u _ _ b (searched + u .n))
 
 number-in : (a : FitAnswer) (rows : List Float) (out summary : List ℕ) → Said a → let z = answerBytes a rows out summary .0 in (z ≡ 0) ⊎ ((14 ≤ z) × (z ≤ 17))
 unfolding placedRows
@@ -90,7 +90,7 @@ module _ (coords x y : List ℕ) (p kernel kind bandwidth : ℕ) (out summary : 
       record {
         numbers = job;
         placed-in = e;
-        number = subst⁻¹ (λ (z : AfterCall). (z .0 ≡ 0) ⊎ ((14 ≤ z .0) × (z .0 ≤ 17))) e (number-in (f .0 .answer) (take (f .0 .rows * (p + 4)) (f .1)) out summary (answer-said _ _ _ _ _ _ _ (job .answered)));
+        number = subst⁻¹ (λ (z : AfterCall). (z .0 ≡ 0) ⊎ ((14 ≤ z .0) × (z .0 ≤ 17))) e (number-in (f .0 .answer) (take (f .0 .rows * (p + 4)) (f .1)) out summary (answer-said _ _ _ _ _ _ (job .answered)));
         untouched = t .rows;
         summary-untouched = t .sums;
         long = t .long;

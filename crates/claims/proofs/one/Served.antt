@@ -148,7 +148,7 @@ module _ (u : Setup) (d : Data) (b : GwrBandwidth) (out : List Float) (room : u 
   -- ---- its answer
 
   answered : (c : Course) (s : Sweep) (searched : ℕ) (w : List Float) → SweptTo c (u .n) s w
-      → FitAnswered (fit.Done (finishOf (endingAt c u s) b (searched + solvesAfter c (s .location)))) solve b searched (s .location) (u .n)
+      → FitAnswered (fit.Done (finishOf (endingAt c u s) b (searched + solvesAfter c (s .location)))) solve b searched (s .location) u
   unfolding range
   answered Going s searched w (e, f, h, a, g) = inr (e, rw (sub-zero, e, a, g))
   answered (Stopped r) s searched w h = inl (h .0, r, h .1, refl)
@@ -159,7 +159,7 @@ module _ (u : Setup) (d : Data) (b : GwrBandwidth) (out : List Float) (room : u 
 
 -- a final fit of the data d at the bandwidth b, after the search's solves
 pub record Finished (u : Setup) (d : Data) (b : GwrBandwidth) (searched : ℕ) (out : List Float) (f : Fit × List Float) : Type 0 where
-  pub answered : FitAnswered (f .0 .answer) (λ (i : ℕ). solveLocation u d b i .outcome) b searched (f .0 .rows) (u .n)
+  pub answered : FitAnswered (f .0 .answer) (λ (i : ℕ). solveLocation u d b i .outcome) b searched (f .0 .rows) u
   pub written : (i : ℕ) → i < f .0 .rows → RowOf (solveLocation u d b i) (u .p) (take (u .p + 4) (drop (i * (u .p + 4)) (f .1)))
   pub untouched : let from = f .0 .rows * (u .p + 4) in drop from (f .1) ≡ drop from out
   pub long : length (f .1) ≡ length out

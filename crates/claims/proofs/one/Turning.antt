@@ -15,6 +15,7 @@ use Rattle.root.specs.Root.{root}
 use Rattle.refusal.specs.declared.Refusal.{Refusal}
 use Rattle.checks.specs.Judge.{NoneOf, Decides}
 use Rattle.checks.proofs.Judge.{none-head}
+use Rattle.setup.specs.declared.Setup.{Setup}
 use Rattle.setup.specs.Data.{Data}
 use Rattle.local.specs.declared.Outcome.{Outcome}
 use Rattle.local.specs.declared.Outcome.the-variants as outcome
@@ -56,9 +57,9 @@ StageMet Round = Unit {0}
 StageMet Final = Unit {0}
 StageMet (Ended c) = CriterionMet c
 
-aic-met : (n : ℕ) (q t : Float) → CriterionMet (correctedAic n q t)
+aic-met : (u : Setup) (q t : Float) → CriterionMet (correctedAic u q t)
 unfolding correctedAic
-aic-met n q t = either CriterionMet (finite (deviation rounded root (fromCount n) q)) _ _ tt (inr (inr (inr refl)))
+aic-met u q t = either CriterionMet (finite (deviation rounded root (fromCount (u .n)) q)) _ _ tt (inr (inr (inr refl)))
 
 close-met : (x : Stage) (j : Job) (c : Criterion) → CriterionMet c → StageMet (j .stage) → StageMet (closeAt x j c .stage)
 close-met First j c m h = tt

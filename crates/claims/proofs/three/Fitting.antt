@@ -52,7 +52,7 @@ foundSolves (plan.Sought lo hi) u d = optimizeBandwidth u d lo hi .solves
 
 module _ (u : Setup) (d : Data) where
   ended-rows : (b : GwrBandwidth) (e : Course) (s : Sweep) → ReachedAt u d b e (u .n) s → rowsEnded (endingAt e u s) (u .n) (lastAt e s .location) ≡ s .location
-  ended-rows b Going s h = aic-rows (u .n) _ (s .squares) (s .trace) ∙ sym h
+  ended-rows b Going s h = aic-rows u _ (s .squares) (s .trace) ∙ sym h
   ended-rows b (Stopped r) s h = at-rows r (u .n) (s .location) (stopped-at u d b r (u .n) s h)
 
   -- the end of a job that began so, whose uninterrupted fit is f with the bandwidth b after m trials and c solves
