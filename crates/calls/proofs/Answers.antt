@@ -24,8 +24,9 @@ use Rattle.gwr.specs.declared.FitAnswer.the-variants.{Done, Rejected}
 use Rattle.gwr.specs.declared.Fit.{Fit}
 use Rattle.gwr.specs.Fit.{gwrFit}
 use Rattle.calls.specs.declared.Choice.{Choice}
+use Rattle.calls.specs.declared.Choice.the-variants as choice
 use Rattle.calls.specs.declared.KernelChoice.{KernelChoice}
-use Rattle.calls.specs.Options.{kernelOf, optionsWith, optionsOf}
+use Rattle.calls.specs.Options.{kernelOf, isUnknownKernel, namedKernel, kindOf, optionsOf}
 use Rattle.calls.specs.Calls.{AfterCall, placedRows, answerBytes, fittedBytes, fitParts, roomOf, summaryBytes, placedWeight, Writable, Roomy, Offered}
 use Rattle.gwr.proofs.Bounds.{Sound, Fits, fits}
 
@@ -36,6 +37,10 @@ pub both : {n m : ℕ} {a b : List ℕ} → n ≡ m → a ≡ b → _≡_ {A = �
 both p q = cc
 
 -- ---- options
+
+-- the options of a kernel that was read
+abbrev pub optionsWith : KernelChoice → ℕ → ℕ → Choice
+optionsWith k kind bandwidth = cond (isUnknownKernel k) choice.Unknown (kindOf (namedKernel k) kind bandwidth)
 
 pub options-are : (number kind bandwidth : ℕ) (k : KernelChoice) (r : Choice) → kernelOf number ≡ k → r ≡ optionsWith k kind bandwidth → r ≡ optionsOf number kind bandwidth
 unfolding optionsOf

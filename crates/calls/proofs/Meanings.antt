@@ -19,8 +19,9 @@ use Rattle.calls.specs.declared.KernelChoice.{KernelChoice}
 use Rattle.calls.specs.declared.KernelChoice.the-variants as kernel
 use Rattle.calls.specs.declared.Choice.{Choice}
 use Rattle.calls.specs.declared.Choice.the-variants as choice
-use Rattle.calls.specs.Options.{kernelOf, isUnknownKernel, namedKernel, kindOf, optionsWith, optionsOf, isUnknown, named}
+use Rattle.calls.specs.Options.{kernelOf, isUnknownKernel, namedKernel, kindOf, optionsOf, isUnknown, named}
 use Rattle.calls.specs.Calls.{lentTooShort, weightTests}
+use Rattle.calls.proofs.Answers.{optionsWith}
 
 -- ---- 18
 

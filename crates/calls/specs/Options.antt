@@ -21,8 +21,7 @@ unfoldable pub kernelOf : ℕ → KernelChoice
 kernelOf number =
     cond (eqb number 0) (kernel.Known Gaussian)
     (cond (eqb number 1) (kernel.Known Bisquare)
-    (cond (eqb number 2) (kernel.Known Exponential)
-    kernel.Unknown))
+    (cond (eqb number 2) (kernel.Known Exponential) kernel.Unknown))
 
 -- whether 18 is owed
 abbrev pub isUnknownKernel : KernelChoice → Bool
@@ -45,16 +44,11 @@ kindOf k kind bandwidth =
     cond (eqb kind 0) (chosenOf k (Fixed (realOf bandwidth)) false)
     (cond (eqb kind 1) (chosenOf k (AdaptiveKnn bandwidth) false)
     (cond (eqb kind 2) (chosenOf k (Fixed (realOf bandwidth)) true)
-    (cond (eqb kind 3) (chosenOf k (AdaptiveKnn bandwidth) true)
-    choice.Unknown)))
+    (cond (eqb kind 3) (chosenOf k (AdaptiveKnn bandwidth) true) choice.Unknown)))
 
-abbrev pub optionsWith : KernelChoice → ℕ → ℕ → Choice
-optionsWith (kernel.Known k) kind bandwidth = kindOf k kind bandwidth
-optionsWith kernel.Unknown kind bandwidth = choice.Unknown
-
--- the options of a kernel's number, a kind's number and a bandwidth's bits or count
+-- the options of a kernel's number, a kind's number and a bandwidth's bits or count; an unknown kernel leaves them unknown
 unfoldable pub optionsOf : ℕ → ℕ → ℕ → Choice
-optionsOf number kind bandwidth = optionsWith (kernelOf number) kind bandwidth
+optionsOf number kind bandwidth = let k = kernelOf number in cond (isUnknownKernel k) choice.Unknown (kindOf (namedKernel k) kind bandwidth)
 
 -- whether 18 is owed
 abbrev pub isUnknown : Choice → Bool

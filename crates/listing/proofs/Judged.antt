@@ -35,10 +35,10 @@ use Rattle.listing.specs.declared.Head.{Head}
 use Rattle.listing.specs.declared.Header.the-variants.{Whole, Refused}
 use Rattle.listing.specs.Headers.{headOf, headerTests, headerOf}
 use Rattle.listing.specs.Jobs.{placesEnd, predictorsEnd, responsesEnd, cutTests, refusedText, answerText, callOfParts, wholeText, jobText}
-use Rattle.listing.specs.Printed.{textOf, printed}
-use Rattle.listing.specs.Numbers.{dataIn, optionsIn, dataTests, printTests, fitIn, fitOn, textOfFit}
+use Rattle.listing.specs.Printed.{textOf, printed, printedParts}
+use Rattle.listing.specs.Numbers.{dataIn, optionsIn, dataTests, printTests, fitIn, textOfFit}
 use Rattle.listing.proofs.Texts.{refused-text, PassedHeader, header-passed, parts-whole}
-use Rattle.listing.proofs.Reading.{load-front}
+use Rattle.listing.proofs.Fronts.{load-front}
 use Rattle.listing.proofs.Numbers.{answer-text}
 
 -- ---- lists of tests
@@ -144,7 +144,7 @@ module _ (h : Head) (parts : List ℕ) (known : isUnknown (optionsOf (h .kernel)
         ∙ z
 
     -- the text of whole parts
-    pub whole-judged : wholeText h parts out summary ≡ ruled (judge (dataTests h parts)) refusedText (textOfFit (fitIn h parts) n p)
+    pub whole-judged : wholeText h parts out summary ≡ ruled (judge (dataTests h parts)) refusedText (textOfFit h parts)
     unfolding wholeText callOfParts
     whole-judged = go (judge (dataTests h parts)) refl
       where
@@ -153,7 +153,7 @@ module _ (h : Head) (parts : List ℕ) (known : isUnknown (optionsOf (h .kernel)
             (fitBytes A B D p (h .kernel) (h .kind) (h .bandwidth) out summary ≡ fittedBytes p (numbersFit A B D p o) out summary)
         call = call-decides A B D p out summary (h .kernel) (h .kind) (h .bandwidth)
 
-        fit-text : answerText (fittedBytes p (fitIn h parts) out summary) n (p + 4) ≡ textOfFit (fitIn h parts) n p
+        fit-text : answerText (fittedBytes p (fitIn h parts) out summary) n (p + 4) ≡ textOfFit h parts
         fit-text =
             let rows = replicate (n * (p + 4)) zero64 in
             let g = fits (dataIn h parts) p o rows in
@@ -161,15 +161,15 @@ module _ (h : Head) (parts : List ℕ) (known : isUnknown (optionsOf (h .kernel)
             answer-text n (p + 4) (fitIn h parts .1) out summary (g .long ∙ length-replicate (n * (p + 4)) zero64) (fitIn h parts .0 .answer) (fitIn h parts .0 .rows) (length rows)
             (subst (λ (k : ℕ). Sound (fitIn h parts .0 .answer) (fitIn h parts .0 .rows) k (length rows)) half (g .sound))
 
-        go : (k : Check) → judge (dataTests h parts) ≡ k → answerText (fitBytes A B D p (h .kernel) (h .kind) (h .bandwidth) out summary) n (p + 4) ≡ ruled (judge (dataTests h parts)) refusedText (textOfFit (fitIn h parts) n p)
+        go : (k : Check) → judge (dataTests h parts) ≡ k → answerText (fitBytes A B D p (h .kernel) (h .kind) (h .bandwidth) out summary) n (p + 4) ≡ ruled (judge (dataTests h parts)) refusedText (textOfFit h parts)
         go (check.Refused r) e =
             ap (λ (a : AfterCall). answerText a n (p + 4)) (call .refused r (call-judged ∙ e))
             ∙ sym (refused-text (refusedCall r out summary) n (p + 4) (numbered r .some))
-            ∙ sym (ruled-refused refusedText (textOfFit (fitIn h parts) n p) e)
+            ∙ sym (ruled-refused refusedText (textOfFit h parts) e)
         go check.Pass e =
             ap (λ (a : AfterCall). answerText a n (p + 4)) (call .served (call-judged ∙ e) ∙ ap (λ (g : Fit × List Float). fittedBytes p g out summary) fit-same)
             ∙ fit-text
-            ∙ sym (ruled-pass refusedText (textOfFit (fitIn h parts) n p) e)
+            ∙ sym (ruled-pass refusedText (textOfFit h parts) e)
 
 -- ---- the whole input
 
@@ -186,14 +186,15 @@ module _ (input : List ℕ) where
   behind = drop 40 input
 
   abbrev text : List ℕ
-  text = textOfFit (fitOn input) (head .n) (head .p)
+  text = textOfFit head behind
 
   abbrev cuts : List (Bool × Refusal)
   cuts = cutTests (length behind) (head .n) (head .p)
 
-  pub printed-judged : printed input ≡ ruled (judge (printTests input)) refusedText text
-  unfolding printed headerOf jobText printTests
-  printed-judged =
+  -- what the code's parts give is what is owed
+  pub parts-printed : printedParts input ≡ printed input
+  unfolding printedParts printed headerOf jobText printTests
+  parts-printed =
       let W = wholeText head behind (replicate 45056 0) (replicate 24 0) in
       let rest = ruled (judge (dataTests head behind)) refusedText text in
       text-ruled (judge (headerTests input)) head behind
@@ -206,7 +207,8 @@ module _ (input : List ℕ) where
 
   -- the program refuses exactly as the list says, and prints the fit of the numbers otherwise
   pub printed-decides : Decides (printTests input) (λ (r : Refusal). printed input ≡ refusedText r) (printed input ≡ text)
-  printed-decides = decides (printTests input) printed-judged
+  unfolding printed
+  printed-decides = decides (printTests input) refl
 
   -- an input that no test refuses: its header, its parts, and that the fit of its numbers is not refused
   pub record PrintPassed : Type 0 where

@@ -9,7 +9,7 @@ use lib.Seq.{take-all, take-at, drop-at, drop-drop, take-suc, getD-drop}
 use lib.Ieee.{Float, nan}
 use Rattle.wire.specs.Wire.{bitsOf, lowBytes, bytesOf, numberOf, loadOf, placed, realBytes}
 use Rattle.wire.proofs.Numbers.{length-bytesOf}
-use Rattle.text.specs.Listing.{hexIn, hexDigits, bitsText, bitsTexts, rowLine, rowLines, summaryLine, listing, loads, rowsOf}
+use Rattle.text.specs.Listing.{hexIn, bitsText, bitsTexts, rowLine, rowLines, summaryLine, listing, loads, rowsOf}
 use Rattle.refusal.proofs.Range.{numbered}
 use Rattle.criterion.specs.declared.Summary.{Summary}
 use Rattle.sweep.specs.declared.Finish.the-variants.{Fitted, Failed}
@@ -44,7 +44,7 @@ hex-pairs (suc k) v =
     rw (a, b, c, d, hex-pairs k (v / 256))
 
 bits-low : (v : ℕ) → bitsText (low v) ≡ bitsText v
-unfolding bitsText hexDigits bytesOf
+unfolding bitsText bytesOf
 bits-low v = ap (λ (l : List ℕ). 32 ∷ l) (hex-pairs 8 v)
 
 -- ---- numbers one after the other

@@ -28,7 +28,7 @@ use Rattle.listing.specs.declared.Header.{Header}
 use Rattle.listing.specs.declared.Header.the-variants.{Whole, Refused}
 use Rattle.listing.specs.Headers.{headOf, sizeTests, headerTests, headerOf, sizedHeader}
 use Rattle.listing.specs.Jobs.{placesEnd, predictorsEnd, responsesEnd, cutTests, refusedText, answerText, callOfParts, wholeText, jobText}
-use Rattle.listing.specs.Printed.{textOf, printed, asked}
+use Rattle.listing.specs.Printed.{textOf, printedParts, asked}
 
 -- ---- headers
 
@@ -148,12 +148,12 @@ module _ (h : Head) (parts : List ℕ) where
   job-whole e = sym (ruled-pass refusedText whole e)
 
 -- the text of an input, of the header that was read and the bytes behind it
-pub refused-input : (input : List ℕ) (r : Refusal) (number : ℕ) → headerOf input ≡ Refused r → number ≡ refusalNumber r → refusedLine number ≡ printed input
-unfolding printed
+pub refused-input : (input : List ℕ) (r : Refusal) (number : ℕ) → headerOf input ≡ Refused r → number ≡ refusalNumber r → refusedLine number ≡ printedParts input
+unfolding printedParts
 refused-input input r number e i = ap refusedLine i ∙ sym (ap (λ (z : Header). textOf z (drop 40 input)) e)
 
-pub whole-input : (input : List ℕ) (h : Head) → headerOf input ≡ Whole h → jobText h (take (length input - 40) (drop 40 input)) ≡ printed input
-unfolding printed
+pub whole-input : (input : List ℕ) (h : Head) → headerOf input ≡ Whole h → jobText h (take (length input - 40) (drop 40 input)) ≡ printedParts input
+unfolding printedParts
 whole-input input h e =
     ap (jobText h) (take-all (length input - 40) (drop 40 input) (omega (arith, length-drop 40 input))) ∙ sym (ap (λ (z : Header). textOf z (drop 40 input)) e)
 

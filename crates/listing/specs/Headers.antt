@@ -28,6 +28,8 @@ headerTests s =
     ∷ (isUnknown (optionsOf (loadOf s 16) (loadOf s 24) (loadOf s 32)), UnknownNumber)
     ∷ sizeTests (loadOf s 0) (loadOf s 8)
 
+-- ---- what the code's parts give
+
 -- the header of these bytes
 unfoldable pub headerOf : List ℕ → Header
 headerOf s = ruled (judge (headerTests s)) Refused (Whole (headOf s))
@@ -35,8 +37,6 @@ headerOf s = ruled (judge (headerTests s)) Refused (Whole (headOf s))
 -- how many bytes follow a header: coordinates, predictors and responses
 abbrev pub partsLen : ℕ → ℕ → ℕ
 partsLen n p = 8 * (n * (p + 3))
-
--- ---- what the code's parts give
 
 -- the header where only its sizes are left to test
 unfoldable pub sizedHeader : List ℕ → Header

@@ -1,4 +1,4 @@
--- The text of a job whose parts follow its header. Definitions only.
+-- The parts of a job behind its header, and its text part by part. Definitions only.
 use Prim.Native.Nat.{ℕ, _+_, _*_}
 use mathlib.Core.Bool.{Bool, cond}
 use mathlib.Core.List.{List, [], _∷_}
@@ -31,6 +31,8 @@ cutTests size n p =
 -- 01: a refusal prints `fit` and its number only
 abbrev pub refusedText : Refusal → List ℕ
 refusedText r = refusedLine (refusalNumber r)
+
+-- ---- what the code's parts give
 
 -- a refusal's line, or the listing of n rows of so many numbers
 unfoldable pub answerText : AfterCall → ℕ → ℕ → List ℕ

@@ -1,4 +1,4 @@
--- What `gwrprint` prints of the fit on numbers. Definitions only; `printed-judged` of proofs/Judged says that `printed` is this.
+-- Which inputs `gwrprint` refuses, and the text of the fit of the numbers that the others hold. Definitions only.
 use Prim.Native.Nat.{ℕ, zero, suc, _+_, _*_}
 use mathlib.Core.Bool.{Bool}
 use mathlib.Core.List.{List, [], _∷_, _++_, map}
@@ -54,10 +54,6 @@ printTests input =
 abbrev pub fitIn : Head → List ℕ → Fit × List Float
 fitIn h parts = gwrFit (dataIn h parts) (h .p) (optionsIn h) (replicate (h .n * (h .p + 4)) zero64)
 
--- the fit of the numbers that an input holds
-abbrev pub fitOn : List ℕ → Fit × List Float
-fitOn input = fitIn (headOf input) (drop 40 input)
-
 -- the first n rows of an output, of `width` numbers each
 unfoldable pub rowsIn : List Float → ℕ → ℕ → List (List Float)
 rowsIn out width zero = []
@@ -69,6 +65,6 @@ fitText (Done (Fitted v)) rows = listing (bitsOf (v .bandwidth)) (bitsOf (v .aic
 fitText (Done (Failed r v)) rows = refusedText r
 fitText (Rejected r) rows = refusedText r
 
--- the text of a fit with n rows
-abbrev pub textOfFit : Fit × List Float → ℕ → ℕ → List ℕ
-textOfFit f n p = fitText (f .0 .answer) (rowsIn (f .1) (p + 4) n)
+-- the text of that fit
+abbrev pub textOfFit : Head → List ℕ → List ℕ
+textOfFit h parts = let f = fitIn h parts in fitText (f .0 .answer) (rowsIn (f .1) (h .p + 4) (h .n))

@@ -2,6 +2,7 @@
 use borrow.Author.Needs.{needs}
 use mathlib.Core.Path.{sym, _∙_}
 use Rattle.listing.proofs.Texts.{line-is, number-small, head-sized, head-long, refused-input, whole-input}
+use Rattle.listing.proofs.Judged.{parts-printed}
 use Rattle.listing.proofs.print_input.Statement.{statement}
 use Rattle.listing.proofs.print_input.Tie as tie
 
@@ -18,10 +19,10 @@ print-job-requires : tie.Need-print-job-requires
 print-job-requires c κs = let z = head-sized _ _ (sym (c .before .before .before .before .before .header-of .ensures) ∙ c .before .before .before .header2 .given .1) in (z .0, z .1, search needs)
 
 returns : tie.Need-returns
-returns c = line-is _ _ _ _ _ (c .before .before .put-refused .ensures) (refused-input _ _ _ (sym (c .before .before .before .before .before .before .before .before .header-of .ensures) ∙ c .before .before .before .before .before .before .header .given .1) (c .before .before .before .number .ensures))
+returns c = line-is _ _ _ _ _ (c .before .before .put-refused .ensures) (refused-input _ _ _ (sym (c .before .before .before .before .before .before .before .before .header-of .ensures) ∙ c .before .before .before .before .before .before .header .given .1) (c .before .before .before .number .ensures) ∙ parts-printed _)
 
 returns-2 : tie.Need-returns-2
-returns-2 c = line-is _ _ _ _ _ (c .before .before .print-job .ensures) (whole-input _ _ (sym (c .before .before .before .before .before .before .before .before .header-of .ensures) ∙ c .before .before .before .before .before .before .header2 .given .1))
+returns-2 c = line-is _ _ _ _ _ (c .before .before .print-job .ensures) (whole-input _ _ (sym (c .before .before .before .before .before .before .before .before .header-of .ensures) ∙ c .before .before .before .before .before .before .header2 .given .1) ∙ parts-printed _)
 
 pub print-input-spec : {M : Type 1} → statement M
 print-input-spec =
