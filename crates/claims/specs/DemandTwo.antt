@@ -12,7 +12,7 @@ use lib.Ieee.{Float, nan, inf, fin, binary64, lt, le, eq, fits, isNan, toBits}
 use lib.Ieee.Scale.{finite}
 use Rattle.real.specs.Reals.{zero64, one64, leastNormal, inf64, fromCount}
 use Rattle.real.specs.Fractions.{Fraction, fraction, fractionOf, Once, OnceBy}
-use Rattle.real.specs.Arithmetic.{rounded, exact}
+use Rattle.real.specs.Arithmetic.{Arithmetic, rounded, exact}
 use Rattle.root.specs.Root.{root}
 use Rattle.root.specs.Nearest.{NearestRoot}
 use Rattle.exponent_table.specs.Reduction.{floor708, expK}
@@ -69,12 +69,12 @@ pub record DemandTwo : Type 1 where
   -- Kiefer 1953: a round keeps the part about the lower score, reuses one inner point and its score, and makes one new trial
   pub round-kiefer : (g : Bracket) (s : Float) → KieferRound g (narrowOf g s) s
   -- the points stand at the golden section. 000's are the formulas with each operation rounded once
-  pub first-points : (lo hi : Float) → points.sectionOf (startOf lo hi) ≡ points.sectionAt points.roundedPoints lo hi
-  pub next-points : (g : Bracket) (s : Float) → points.sectionOf (narrowOf g s) ≡ points.nextSection points.roundedPoints (goesLeft g) (points.sectionOf g)
+  pub first-points : (lo hi : Float) → points.sectionOf (startOf lo hi) ≡ points.sectionAt rounded G lo hi
+  pub next-points : (g : Bracket) (s : Float) → points.sectionOf (narrowOf g s) ≡ points.nextSection rounded G (goesLeft g) (points.sectionOf g)
   -- where nothing is rounded and g² = 1 - g, they are Kiefer's: a + g²·h is b - g·h, and after a round on either side the reused point stands where the part kept wants it
-  pub golden-section : {R : Type 0} (K : points.CommutativeRing R) (g : R) → K .times g g ≡ points.exactPoints K g .minus (K .one) g → (a b : R) → points.GoldenSection (points.exactPoints K g) a b
+  pub golden-section : {R : Type 0} (A : Arithmetic R) → points.CommutativeRing A → (g : R) → A .times g g ≡ A .minus (A .one) g → (a b : R) → points.GoldenSection A g a b
   -- of any other ratio, what e = g² + g - 1 leaves of that
-  pub residues : {R : Type 0} (K : points.CommutativeRing R) (g a b : R) → points.Residues (points.exactPoints K g) (points.goldenResidual K g) a b
+  pub residues : {R : Type 0} (A : Arithmetic R) → points.CommutativeRing A → (g a b : R) → points.Residues A g (A .minus (A .plus (A .times g g) g) (A .one)) a b
   -- and of G that is 38494044947129 / 2^98, below 2^-52; G2 - (1 - G) is 2^-53
   pub ratio-near : points.NearGolden
   -- an accepted job's search goes between finite numbers lo ≤ hi whose difference is finite
