@@ -42,7 +42,7 @@ use Rattle.criterion.specs.Aicc.{pi64, exhausted, correctedAic}
 use Rattle.golden.specs.declared.Bracket.{Bracket}
 use Rattle.golden.specs.Golden.{invPhi, invPhi2, G, G2, startOf, goesLeft, narrowOf}
 use Rattle.golden.specs.Points as points
-use Rattle.golden.specs.Kiefer.{Span, Inside, Framed, Ordered, KieferRound, Narrowed, triedOf, playedOf, SearchInside, Valley, ScoredBy, Follows}
+use Rattle.golden.specs.Kiefer.{Span, Inside, Framed, KieferRound, Narrowed, triedOf, playedOf, SearchInside, Valley, ScoredBy, Follows}
 use Rattle.setup.specs.declared.GwrOptions.{GwrOptions}
 use Rattle.plan.specs.declared.Plan.the-variants as plan
 use Rattle.plan.specs.declared.Acceptance.the-variants as acceptance
@@ -90,8 +90,8 @@ pub record DemandTwo : Type 1 where
   -- and so do any number of them
   pub bottom-stays : (f : Float → Float) (m : Float) (g : Bracket) (l : List Float) → ScoredBy f g → Follows f g l
       → Valley f (g .c ∷ g .d ∷ triedOf g l) m → Inside (g .a) (g .b) m → Inside (playedOf g l .a) (playedOf g l .b) m
-  -- a bracket lies within the one before while its inner points are in order; the listed spot: rounding can put them out of order
-  pub round-narrows : (g : Bracket) (s : Float) → Framed g → Ordered g → Narrowed g (narrowOf g s)
+  -- a bracket lies within the one before while its inner points are in order, c ≤ d as in the published method; the listed spot: rounding can put them out of order
+  pub round-narrows : (g : Bracket) (s : Float) → Framed g → T (le (g .c) (g .d)) → Narrowed g (narrowOf g s)
   -- ---- the local solve: Fotheringham, Brunsdon and Charlton 2002
 
   -- where nothing was rounded, the coefficients solve (XᵀWX) β = XᵀWy
