@@ -12,7 +12,7 @@ use lib.Ieee.{Float, nan, inf, fin, binary64, lt, le, eq, fits, isNan, toBits}
 use lib.Ieee.Scale.{finite}
 use Rattle.real.specs.Reals.{zero64, one64, leastNormal, inf64, fromCount}
 use Rattle.real.specs.Fractions.{Fraction, fraction, fractionOf, Once, OnceBy}
-use Rattle.real.specs.Arithmetic.{rounded, exact}
+use Rattle.real.specs.Arithmetic.{Arithmetic, rounded, exact}
 use Rattle.root.specs.Root.{root}
 use Rattle.root.specs.Nearest.{NearestRoot}
 use Rattle.exponent_table.specs.Reduction.{floor708, expK}
@@ -42,7 +42,7 @@ use Rattle.criterion.specs.Aicc.{pi64, exhausted, correctedAic}
 use Rattle.golden.specs.declared.Bracket.{Bracket}
 use Rattle.golden.specs.Golden.{invPhi, invPhi2, G, G2, startOf, goesLeft, narrowOf}
 use Rattle.golden.specs.Points as points
-use Rattle.golden.specs.Kiefer.{Span, Inside, Framed, Ordered, KieferRound, Narrowed, triedOf, playedOf, SearchInside, Valley, ScoredBy, Follows}
+use Rattle.golden.specs.Kiefer.{Span, Inside, Framed, KieferRound, Narrowed, triedOf, playedOf, SearchInside, Valley, ScoredBy, Follows}
 use Rattle.setup.specs.declared.GwrOptions.{GwrOptions}
 use Rattle.plan.specs.declared.Plan.the-variants as plan
 use Rattle.plan.specs.declared.Acceptance.the-variants as acceptance
@@ -69,12 +69,12 @@ pub record DemandTwo : Type 1 where
   -- Kiefer 1953: a round keeps the part about the lower score, reuses one inner point and its score, and makes one new trial
   pub round-kiefer : (g : Bracket) (s : Float) → KieferRound g (narrowOf g s) s
   -- the points stand at the golden section. 000's are the formulas with each operation rounded once
-  pub first-points : (lo hi : Float) → points.sectionOf (startOf lo hi) ≡ points.sectionAt points.roundedPoints lo hi
-  pub next-points : (g : Bracket) (s : Float) → points.sectionOf (narrowOf g s) ≡ points.nextSection points.roundedPoints (goesLeft g) (points.sectionOf g)
+  pub first-points : (lo hi : Float) → points.sectionOf (startOf lo hi) ≡ points.sectionAt rounded G lo hi
+  pub next-points : (g : Bracket) (s : Float) → points.sectionOf (narrowOf g s) ≡ points.nextSection rounded G (goesLeft g) (points.sectionOf g)
   -- where nothing is rounded and g² = 1 - g, they are Kiefer's: a + g²·h is b - g·h, and after a round on either side the reused point stands where the part kept wants it
-  pub golden-section : {R : Type 0} (K : points.CommutativeRing R) (g : R) → K .times g g ≡ points.exactPoints K g .minus (K .one) g → (a b : R) → points.GoldenSection (points.exactPoints K g) a b
+  pub golden-section : {R : Type 0} (A : Arithmetic R) → points.CommutativeRing A → (g : R) → A .times g g ≡ A .minus (A .one) g → (a b : R) → points.GoldenSection A g a b
   -- of any other ratio, what e = g² + g - 1 leaves of that
-  pub residues : {R : Type 0} (K : points.CommutativeRing R) (g a b : R) → points.Residues (points.exactPoints K g) (points.goldenResidual K g) a b
+  pub residues : {R : Type 0} (A : Arithmetic R) → points.CommutativeRing A → (g a b : R) → points.Residues A g (A .minus (A .plus (A .times g g) g) (A .one)) a b
   -- and of G that is 38494044947129 / 2^98, below 2^-52; G2 - (1 - G) is 2^-53
   pub ratio-near : points.NearGolden
   -- an accepted job's search goes between finite numbers lo ≤ hi whose difference is finite
@@ -90,8 +90,8 @@ pub record DemandTwo : Type 1 where
   -- and so do any number of them
   pub bottom-stays : (f : Float → Float) (m : Float) (g : Bracket) (l : List Float) → ScoredBy f g → Follows f g l
       → Valley f (g .c ∷ g .d ∷ triedOf g l) m → Inside (g .a) (g .b) m → Inside (playedOf g l .a) (playedOf g l .b) m
-  -- a bracket lies within the one before while its inner points are in order; the listed spot: rounding can put them out of order
-  pub round-narrows : (g : Bracket) (s : Float) → Framed g → Ordered g → Narrowed g (narrowOf g s)
+  -- a bracket lies within the one before while its inner points are in order, c ≤ d as in the published method; the listed spot: rounding can put them out of order
+  pub round-narrows : (g : Bracket) (s : Float) → Framed g → T (le (g .c) (g .d)) → Narrowed g (narrowOf g s)
   -- ---- the local solve: Fotheringham, Brunsdon and Charlton 2002
 
   -- where nothing was rounded, the coefficients solve (XᵀWX) β = XᵀWy

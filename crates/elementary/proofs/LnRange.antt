@@ -276,23 +276,18 @@ module _ (lo hi A L : Float) (ok : All (intervalTests lo hi A L)) (m e : Float) 
       let inn = add-mag (mul binary64 (mul binary64 two z) s) (mul binary64 e LO) P2 PL (pr .0) (el .0) (closed .1 .0) (c5 .0) (c5 .1 .0) (c5 .1 .1 .1 .0) (pr .1) (el .1) in
       let ans = add-mag (mul binary64 e HI) (add binary64 (mul binary64 (mul binary64 two z) s) (mul binary64 e LO)) PH PI (eh .0) (inn .0) (closed .1 .1 .1 .1 .0) (c5 .1 .0) (c5 .1 .1 .0) (c5 .1 .1 .1 .1 .0) (eh .1) (inn .1) in
       record {
-        less-one = fin-less;
-        and-one = nat-fin (add binary64 m one) (positive-nat (add binary64 m one) more-positive);
-        z = z-fin;
-        z-in = z-mag;
-        w = nat-fin w (q .0);
-        w-low = nat-above w (q .0);
-        w-high = w-top;
+        ends = (fin-less, nat-fin (add binary64 m one) (positive-nat (add binary64 m one) more-positive));
+        z = (z-fin, z-mag);
+        w = (nat-fin w (q .0), nat-above w (q .0), w-top);
         steps = t .each;
-        s-low = s1;
-        s-high = s2;
+        s = (s1, s2);
         twice = z2 .0;
         product = pr .0;
-        high-part = eh .0;
-        low-part = el .0;
+        parts = (eh .0, el .0);
         inner = inn .0;
-        answer = subst (λ (x : Float). T (finite x)) (sym (split-is m e)) (ans .0);
-        answer-in = subst (λ (x : Float). T (le (magnitude x) lnMost)) (sym (split-is m e)) (le-tr (magnitude (add binary64 (mul binary64 e HI) (add binary64 (mul binary64 (mul binary64 two z) s) (mul binary64 e LO)))) PA lnMost (ans .1) (c10 .0));
+        answer =
+            subst (λ (x : Float). T (finite x) × T (le (magnitude x) lnMost)) (sym (split-is m e))
+            (ans .0, le-tr (magnitude (add binary64 (mul binary64 e HI) (add binary64 (mul binary64 (mul binary64 two z) s) (mul binary64 e LO)))) PA lnMost (ans .1) (c10 .0));
       }
 
 -- ---- the two intervals
@@ -351,10 +346,10 @@ module _ (v : Float) (F : T (fits binary64 v)) (low : T (le leastNormal v)) (hig
   tests = all→ raisedTests raised-test
 
   m-low : T (le one (mantissa v))
-  m-low = le-of-values one (mantissa v) 1 1 (2 ^ 52 + toBits binary64 v % 2 ^ 52) (2 ^ 52) (lit< tt) (lit< tt) (refl, refl) (split .mantissa-is) (one-two _ (split .low) (split .high) .0)
+  m-low = le-of-values one (mantissa v) 1 1 (2 ^ 52 + toBits binary64 v % 2 ^ 52) (2 ^ 52) (lit< tt) (lit< tt) (refl, refl) (split .mantissa-is) (one-two _ (split .digits .0) (split .digits .1) .0)
 
   m-high : T (le (mantissa v) two)
-  m-high = le-of-values (mantissa v) two (2 ^ 52 + toBits binary64 v % 2 ^ 52) (2 ^ 52) 2 1 (lit< tt) (lit< tt) (split .mantissa-is) (refl, refl) (one-two _ (split .low) (split .high) .1)
+  m-high = le-of-values (mantissa v) two (2 ^ 52 + toBits binary64 v % 2 ^ 52) (2 ^ 52) 2 1 (lit< tt) (lit< tt) (split .mantissa-is) (refl, refl) (one-two _ (split .digits .0) (split .digits .1) .1)
 
   m-fin : T (finite (mantissa v))
   m-fin = in-fin one (mantissa v) two tt tt m-low m-high
@@ -363,7 +358,7 @@ module _ (v : Float) (F : T (fits binary64 v)) (low : T (le leastNormal v)) (hig
   e-of = ofInt binary64 (exponent v)
 
   e-in : T (le (magnitude e-of) widest)
-  e-in = subst (λ (z : ℤ). T (le (magnitude (ofInt binary64 z)) widest)) (sym (split .exponent-is)) (exponent-in (toBits binary64 v / 2 ^ 52) (split .field-low) (split .field-high))
+  e-in = subst (λ (z : ℤ). T (le (magnitude (ofInt binary64 z)) widest)) (sym (split .exponent-is)) (exponent-in (toBits binary64 v / 2 ^ 52) (split .field .0) (split .field .1))
 
   e-fin : T (finite e-of)
   e-fin = mag-finite e-of widest tt e-in
@@ -402,22 +397,19 @@ module _ (v : Float) (F : T (fits binary64 v)) (low : T (le leastNormal v)) (hig
     where
       go : (b : Bool) → (T b → SplitFinite (mul binary64 (mantissa v) half) (add binary64 e-of one)) → (T (not b) → SplitFinite (mantissa v) e-of)
           → (let x = cond b (lnSplit (mul binary64 (mantissa v) half) (add binary64 e-of one)) (lnSplit (mantissa v) e-of) in T (finite x) × T (le (magnitude x) lnMost))
-      go true f g = (f tt .answer, f tt .answer-in)
-      go false f g = (g tt .answer, g tt .answer-in)
+      go true f g = f tt .answer
+      go false f g = g tt .answer
 
   -- every step of ln is finite
   pub ln-finite : LnFinite v
   unfolding ofBits round ofInt
   ln-finite =
       record {
-        m = m-fin;
-        m-low = m-low;
-        m-high = m-high;
+        m = (m-fin, m-low, m-high);
         e = e-fin;
         halved = halved-fin;
         raised = e-raised .0;
         upper = upper-split;
         lower = lower-split;
-        answer = answer-of .0;
-        answer-in = answer-of .1;
+        answer = answer-of;
       }

@@ -13,10 +13,8 @@ use Rattle.elementary.specs.Ln.{threeHalves, mantissa, exponent, lnStep,
 
 -- 01's first step, v = m·2^e with m from 1 up to below 2, exactly: m is n / 2^52 and e is x - 1023, and v is (n / 2^52)·2^(x - 1023)
 pub record SplitAs (v : Float) (n x : ℕ) : Type 0 where
-  pub low : 2 ^ 52 ≤ n
-  pub high : n < 2 ^ 53
-  pub field-low : 1 ≤ x
-  pub field-high : x ≤ 2046
+  pub digits : (2 ^ 52 ≤ n) × (n < 2 ^ 53)
+  pub field : (1 ≤ x) × (x ≤ 2046)
   pub mantissa-is : HasValue (mantissa v) false n (2 ^ 52)
   pub exponent-is : exponent v ≡ minus x 1023
   pub value-is : HasValue v false (n * 2 ^ x) (2 ^ 1075)
@@ -26,39 +24,25 @@ abbrev pub StepsFinite : ℕ → Float → Float → Type 0
 StepsFinite zero w s = T (finite s)
 StepsFinite (suc n) w s = T (finite s) × T (finite (div binary64 one64 (fromCount (2 * n + 1)))) × T (finite (mul binary64 w s)) × StepsFinite n w (lnStep w s (2 * n + 1))
 
--- a/c as a binary64
-abbrev pub ratio64 : ℕ → ℕ → Float
-ratio64 a c = nearest64 (fraction false a c)
-
 -- 01's steps once m and e are settled: each is finite, |z| at most 1/4, w from 0 to 1/16, s from 1 to 33/32, and the answer at most 711 in size
 pub record SplitFinite (m e : Float) : Type 0 where
-  pub less-one : T (finite (sub binary64 m one64))
-  pub and-one : T (finite (add binary64 m one64))
-  pub z : T (finite (zOf m))
-  pub z-in : T (le (magnitude (zOf m)) (ratio64 1 4))
-  pub w : T (finite (wOf m))
-  pub w-low : T (le zero64 (wOf m))
-  pub w-high : T (le (wOf m) (ratio64 1 16))
+  pub ends : T (finite (sub binary64 m one64)) × T (finite (add binary64 m one64))
+  pub z : T (finite (zOf m)) × T (le (magnitude (zOf m)) (nearest64 (fraction false 1 4)))
+  pub w : T (finite (wOf m)) × T (le zero64 (wOf m)) × T (le (wOf m) (nearest64 (fraction false 1 16)))
   pub steps : StepsFinite 11 (wOf m) (div binary64 one64 (fromCount 23))
-  pub s-low : T (le one64 (lnSeries (wOf m)))
-  pub s-high : T (le (lnSeries (wOf m)) (ratio64 33 32))
+  pub s : T (le one64 (lnSeries (wOf m))) × T (le (lnSeries (wOf m)) (nearest64 (fraction false 33 32)))
   pub twice : T (finite (mul binary64 two64 (zOf m)))
   pub product : T (finite (mul binary64 (mul binary64 two64 (zOf m)) (lnSeries (wOf m))))
-  pub high-part : T (finite (mul binary64 e HI))
-  pub low-part : T (finite (mul binary64 e LO))
+  pub parts : T (finite (mul binary64 e HI)) × T (finite (mul binary64 e LO))
   pub inner : T (finite (add binary64 (mul binary64 (mul binary64 two64 (zOf m)) (lnSeries (wOf m))) (mul binary64 e LO)))
-  pub answer : T (finite (lnSplit m e))
-  pub answer-in : T (le (magnitude (lnSplit m e)) (fromCount 711))
+  pub answer : T (finite (lnSplit m e)) × T (le (magnitude (lnSplit m e)) (fromCount 711))
 
 -- 01's steps for ln v, m from 1 to 2, and halved with e raised by one where it is 1.5 or more: each is finite, and the answer at most 711 in size
 pub record LnFinite (v : Float) : Type 0 where
-  pub m : T (finite (mantissa v))
-  pub m-low : T (le one64 (mantissa v))
-  pub m-high : T (le (mantissa v) two64)
+  pub m : T (finite (mantissa v)) × T (le one64 (mantissa v)) × T (le (mantissa v) two64)
   pub e : T (finite (ofInt binary64 (exponent v)))
   pub halved : T (finite (mul binary64 (mantissa v) half64))
   pub raised : T (finite (add binary64 (ofInt binary64 (exponent v)) one64))
   pub upper : T (le threeHalves (mantissa v)) → SplitFinite (mul binary64 (mantissa v) half64) (add binary64 (ofInt binary64 (exponent v)) one64)
   pub lower : T (not (le threeHalves (mantissa v))) → SplitFinite (mantissa v) (ofInt binary64 (exponent v))
-  pub answer : T (finite (lnv v))
-  pub answer-in : T (le (magnitude (lnv v)) (fromCount 711))
+  pub answer : T (finite (lnv v)) × T (le (magnitude (lnv v)) (fromCount 711))

@@ -17,8 +17,10 @@ use Rattle.setup.specs.declared.Setup.{Setup}
 use Rattle.setup.specs.Data.{Data}
 use Rattle.real.specs.Matrix.{Row, Matrix}
 use Rattle.normal.specs.Equations.{Equations, equationsOf}
+use Rattle.normal.specs.Augmented.{mirroredCell}
+use Rattle.estimate.specs.Inverse.{inverseCell}
 use Rattle.estimate.specs.Estimate.{fitCoefficients}
-use Rattle.estimate.specs.NormalEquations.{powerUnits, unitsOfOne, sumBelow, matrixAt, rightAt, inverseAt, betaAt, gramAt, momentAt, SolvesComputed, ExactInverse, Solves, ExactFit}
+use Rattle.estimate.specs.NormalEquations.{powerUnits, unitsOf, unitsOfOne, sumBelow, cellAt, designAt, momentAt, Solves, Exact, ExactFit}
 
 -- ---- the units: m · 2^e is m · powerUnits e of 2^-1074
 module _ (l m : ℕ) where
@@ -183,16 +185,24 @@ module _ (m : ℕ) (u : ℤ) (A B : ℕ → ℕ → ℤ) (R beta : ℕ → ℤ)
 
 -- ---- the theorems
 
--- the coefficients of an exact inverse solve the equations as computed
-pub inverse-solves : (m : ℕ) (e : Equations) (a : Matrix) (beta : Row) → ExactInverse m e a beta → SolvesComputed m e beta
-inverse-solves m e a beta c = solved m unitsOfOne (matrixAt e) (inverseAt a m) (rightAt e) (betaAt beta) (c .inverse) (c .coefficients)
+-- cell (k, q) of A, and of the inverse of the eliminated matrix a of m rows, in units
+abbrev pub matrixAt : Equations → ℕ → ℕ → ℤ
+matrixAt e k q = unitsOf (mirroredCell (e .0) k q)
+
+abbrev pub inverseAt : Matrix → ℕ → ℕ → ℕ → ℤ
+inverseAt a m k q = unitsOf (inverseCell a m k q)
+
+-- the coefficients of an exact inverse solve the equations as computed, A β row by row
+pub inverse-solves : (u : Setup) (d : Data) (w : Row) (e : Equations) (a : Matrix) (beta : Row) → Exact u d w e a beta → (k : ℕ) → k < u .p + 1
+    → sumBelow (u .p + 1) (λ q. matrixAt e k q *ℤ (cellAt beta q *ℤ unitsOfOne)) ≡ cellAt (e .1) k *ℤ (unitsOfOne *ℤ unitsOfOne)
+inverse-solves u d w e a beta c = solved (u .p + 1) unitsOfOne (matrixAt e) (inverseAt a (u .p + 1)) (cellAt (e .1)) (cellAt beta) (c .inverse) (c .coefficients)
 
 -- (XᵀWX) β = XᵀWy of an exact fit, for any number of predictors and observations
 pub normal-equations : (u : Setup) (d : Data) (w : Row) → ExactFit u d w → Solves u d w (fitCoefficients u d w .0 .beta)
-normal-equations u d w (e, c) =
+normal-equations u d w c =
     let m = u .p + 1 in
     let s = equationsOf u d w in
     let f = fitCoefficients u d w in
     λ k h.
-    published m unitsOfOne (matrixAt s) (inverseAt (f .1) m) (rightAt s) (betaAt (f .0 .beta)) (c .inverse) (c .coefficients)
-    k (gramAt u d w k) (momentAt u d w k) h (λ q l. e .matrix k q h l) (e .right k h)
+    published m unitsOfOne (matrixAt s) (inverseAt (f .1) m) (cellAt (s .1)) (cellAt (f .0 .beta)) (c .inverse) (c .coefficients)
+    k (λ q. momentAt u d w (designAt u d w q) k) (momentAt u d w (cellAt (d .responses)) k) h (λ q l. c .matrix k q h l) (c .right k h)

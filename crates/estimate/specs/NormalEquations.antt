@@ -38,60 +38,32 @@ unfoldable pub sumBelow : ℕ → (ℕ → ℤ) → ℤ
 sumBelow zero f = pos 0
 sumBelow (suc n) f = sumBelow n f +ℤ f n
 
--- ---- what a fit computed, in units: A and the right-hand side of its equations e, the inverse of its eliminated matrix a of m rows, and β
-abbrev pub matrixAt : Equations → ℕ → ℕ → ℤ
-matrixAt e k q = unitsOf (mirroredCell (e .0) k q)
+-- cell k of a row, in units
+abbrev pub cellAt : Row → ℕ → ℤ
+cellAt row k = unitsOf (getD row k nan)
 
-abbrev pub rightAt : Equations → ℕ → ℤ
-rightAt e k = unitsOf (getD (e .1) k nan)
-
-abbrev pub inverseAt : Matrix → ℕ → ℕ → ℕ → ℤ
-inverseAt a m k q = unitsOf (inverseCell a m k q)
-
-abbrev pub betaAt : Row → ℕ → ℤ
-betaAt beta k = unitsOf (getD beta k nan)
-
--- ---- the equations as computed, of m rows
-module _ (m : ℕ) where
-  -- A β is the right-hand side, row by row
-  abbrev pub SolvesComputed : Equations → Row → Type 0
-  SolvesComputed e beta = (k : ℕ) → k < m → sumBelow m (λ q. matrixAt e k q *ℤ (betaAt beta q *ℤ unitsOfOne)) ≡ rightAt e k *ℤ (unitsOfOne *ℤ unitsOfOne)
-
-  -- the inverse is exact: A A⁻¹ = I, and β is A⁻¹ times the right-hand side
-  pub record ExactInverse (e : Equations) (a : Matrix) (beta : Row) : Type 0 where
-    pub inverse : (k r : ℕ) → k < m → r < m → sumBelow m (λ q. matrixAt e k q *ℤ inverseAt a m q r) ≡ cond (eqb k r) (unitsOfOne *ℤ unitsOfOne) (pos 0)
-    pub coefficients : (q : ℕ) → q < m → sumBelow m (λ r. inverseAt a m q r *ℤ rightAt e r) ≡ betaAt beta q *ℤ unitsOfOne
-
--- ---- the equations as published, of the data d under the weights w
+-- ---- the equations of the data d under the weights w
 module _ (u : Setup) (d : Data) (w : Row) where
-  -- X, W and y in units: cell k of observation j's design row, its weight and its response
+  -- X in units: cell k of observation j's design row
   abbrev pub designAt : ℕ → ℕ → ℤ
-  designAt j k = unitsOf (getD (designRow (d .predictors) (u .p) j) k nan)
+  designAt k j = cellAt (designRow (d .predictors) (u .p) j) k
 
-  abbrev pub weightAt : ℕ → ℤ
-  weightAt j = unitsOf (getD w j nan)
-
-  abbrev pub responseAt : ℕ → ℤ
-  responseAt j = unitsOf (getD (d .responses) j nan)
-
-  -- cell (k, q) of XᵀWX, and cell k of XᵀWy
-  unfoldable pub gramAt : ℕ → ℕ → ℤ
-  gramAt k q = sumBelow (u .n) (λ j. weightAt j *ℤ designAt j k *ℤ designAt j q)
-
-  unfoldable pub momentAt : ℕ → ℤ
-  momentAt k = sumBelow (u .n) (λ j. weightAt j *ℤ designAt j k *ℤ responseAt j)
+  -- cell k of XᵀWv, v a number of each observation: of its column q this is cell (k, q) of XᵀWX, and of y cell k of XᵀWy
+  unfoldable pub momentAt : (ℕ → ℤ) → ℕ → ℤ
+  momentAt v k = sumBelow (u .n) (λ j. cellAt w j *ℤ designAt k j *ℤ v j)
 
   -- (XᵀWX) β = XᵀWy, row by row
   abbrev pub Solves : Row → Type 0
-  Solves beta = (k : ℕ) → k < u .p + 1 → sumBelow (u .p + 1) (λ q. gramAt k q *ℤ betaAt beta q) ≡ momentAt k *ℤ unitsOfOne
+  Solves beta = (k : ℕ) → k < u .p + 1 → sumBelow (u .p + 1) (λ q. momentAt (designAt q) k *ℤ cellAt beta q) ≡ momentAt (cellAt (d .responses)) k *ℤ unitsOfOne
 
-  -- the equations e are exact: A = XᵀWX, and the right-hand side is XᵀWy
-  pub record ExactEquations (e : Equations) : Type 0 where
-    pub matrix : (k q : ℕ) → k < u .p + 1 → q < u .p + 1 → gramAt k q ≡ matrixAt e k q *ℤ unitsOfOne *ℤ unitsOfOne
-    pub right : (k : ℕ) → k < u .p + 1 → momentAt k ≡ rightAt e k *ℤ unitsOfOne *ℤ unitsOfOne
+  -- of the equations e, the inverse of the eliminated matrix a and β nothing was rounded: A = XᵀWX, its right-hand side is XᵀWy, A A⁻¹ = I, and β is A⁻¹ times the right-hand side
+  pub record Exact (e : Equations) (a : Matrix) (beta : Row) : Type 0 where
+    pub matrix : (k q : ℕ) → k < u .p + 1 → q < u .p + 1 → momentAt (designAt q) k ≡ unitsOf (mirroredCell (e .0) k q) *ℤ unitsOfOne *ℤ unitsOfOne
+    pub right : (k : ℕ) → k < u .p + 1 → momentAt (cellAt (d .responses)) k ≡ cellAt (e .1) k *ℤ unitsOfOne *ℤ unitsOfOne
+    pub inverse : (k r : ℕ) → k < u .p + 1 → r < u .p + 1
+        → sumBelow (u .p + 1) (λ q. unitsOf (mirroredCell (e .0) k q) *ℤ unitsOf (inverseCell a (u .p + 1) q r)) ≡ cond (eqb k r) (unitsOfOne *ℤ unitsOfOne) (pos 0)
+    pub coefficients : (q : ℕ) → q < u .p + 1 → sumBelow (u .p + 1) (λ r. unitsOf (inverseCell a (u .p + 1) q r) *ℤ cellAt (e .1) r) ≡ cellAt beta q *ℤ unitsOfOne
 
-  -- the fit's are, and so is its inverse
+  -- the fit's are such
   abbrev pub ExactFit : Type 0
-  ExactFit =
-      ExactEquations (equationsOf u d w)
-      × ExactInverse (u .p + 1) (equationsOf u d w) (fitCoefficients u d w .1) (fitCoefficients u d w .0 .beta)
+  ExactFit = Exact (equationsOf u d w) (fitCoefficients u d w .1) (fitCoefficients u d w .0 .beta)

@@ -22,8 +22,8 @@ use Rattle.estimate.specs.declared.Estimate.the-variants.{Fitted}
 use Rattle.estimate.specs.declared.Estimated.{Estimated}
 use Rattle.estimate.specs.Inverse.{invertMatrix, inverseCell, inverseStep, inverseTimes, allStep, allBelow, inverseRowFinite, inverseFinite}
 use Rattle.estimate.specs.Estimate.{coefficientsFinite, coefficientStep, coefficientsOf, fromInverse, eliminatedOf, fitCoefficients}
-use Rattle.estimate.specs.NormalEquations.{unitsOfOne, sumBelow, matrixAt, rightAt, inverseAt, betaAt, gramAt, momentAt, ExactInverse, Solves, ExactFit}
-use Rattle.estimate.proofs.NormalEquations.{normal-equations}
+use Rattle.estimate.specs.NormalEquations.{unitsOfOne, sumBelow, cellAt, designAt, momentAt, Exact, Solves, ExactFit}
+use Rattle.estimate.proofs.NormalEquations.{matrixAt, inverseAt, normal-equations}
 use Rattle.examples.specs.ExactFits.{Family, familySetup, familyData, ExactlySolved, meanOfTwo, lineOfThree, planeOfFour}
 
 -- f 0, .., f (m - 1): where two such lists are equal, so are their numbers
@@ -65,17 +65,17 @@ module _ (f : Family) where
   fit = fitCoefficients u d (f .w)
 
   abbrev gram : ℕ → ℕ → ℤ
-  gram = gramAt u d (f .w)
+  gram k q = momentAt u d (f .w) (designAt u d (f .w) q) k
 
   abbrev moment : ℕ → ℤ
-  moment = momentAt u d (f .w)
+  moment = momentAt u d (f .w) (cellAt (d .responses))
 
   -- the sides of the equations in `ExactFit`
   abbrev matrix : ℕ → ℕ → ℤ
   matrix k q = matrixAt equations k q *ℤ unitsOfOne *ℤ unitsOfOne
 
   abbrev right : ℕ → ℤ
-  right k = rightAt equations k *ℤ unitsOfOne *ℤ unitsOfOne
+  right k = cellAt (equations .1) k *ℤ unitsOfOne *ℤ unitsOfOne
 
   abbrev product : ℕ → ℕ → ℤ
   product k r = sumBelow m (λ q. matrixAt equations k q *ℤ inverseAt (fit .1) m q r)
@@ -84,10 +84,10 @@ module _ (f : Family) where
   identity k r = cond (eqb k r) (unitsOfOne *ℤ unitsOfOne) (pos 0)
 
   abbrev solution : ℕ → ℤ
-  solution q = sumBelow m (λ r. inverseAt (fit .1) m q r *ℤ rightAt equations r)
+  solution q = sumBelow m (λ r. inverseAt (fit .1) m q r *ℤ cellAt (equations .1) r)
 
   abbrev beta : ℕ → ℤ
-  beta q = betaAt (f .beta) q *ℤ unitsOfOne
+  beta q = cellAt (f .beta) q *ℤ unitsOfOne
 
   record Computed : Type 0 where
     same-beta : fit .0 ≡ record { estimate = Fitted; beta = f .beta }
@@ -96,14 +96,15 @@ module _ (f : Family) where
     same-product : square m product ≡ square m identity
     same-solution : table m solution ≡ table m beta
 
-  inverse-of : Computed → ExactInverse m equations (fit .1) (f .beta)
-  inverse-of c = record { inverse = cells m product identity (c .same-product); coefficients = each m solution beta (c .same-solution) }
-
   exactly : Computed → ExactFit u d (f .w)
-  exactly c = (
-    record { matrix = cells m gram matrix (c .same-matrix); right = each m moment right (c .same-right) },
-    subst (λ (e : Estimated). ExactInverse m equations (fit .1) (e .beta)) (sym (c .same-beta)) (inverse-of c),
-  )
+  exactly c =
+      subst (λ (e : Estimated). Exact u d (f .w) equations (fit .1) (e .beta)) (sym (c .same-beta))
+      (record {
+        matrix = cells m gram matrix (c .same-matrix);
+        right = each m moment right (c .same-right);
+        inverse = cells m product identity (c .same-product);
+        coefficients = each m solution beta (c .same-solution);
+      })
 
   solved-by : Computed → ExactlySolved f
   solved-by c =
@@ -114,7 +115,7 @@ module _ (f : Family) where
       }
 
 computed : Computed meanOfTwo × Computed lineOfThree × Computed planeOfFour
-unfolding fitCoefficients eliminatedOf equationsOf fromInverse invertMatrix inverseFinite inverseRowFinite coefficientsFinite coefficientsOf coefficientStep allBelow allStep inverseTimes inverseStep inverseCell eliminated tryStep gaussStep reduced pivotOf pivotStep divRow divStep lessRow lessStep cleared clearStep clearRow cell normalStep observe observeStep addRow cellStep designRow designStep mirroredCell mirrorStep augmentedRow augmentStep augmentedMatrix range magnitude ofInt add sub mul div lt eq ofBits sumBelow table gramAt momentAt square
+unfolding fitCoefficients eliminatedOf equationsOf fromInverse invertMatrix inverseFinite inverseRowFinite coefficientsFinite coefficientsOf coefficientStep allBelow allStep inverseTimes inverseStep inverseCell eliminated tryStep gaussStep reduced pivotOf pivotStep divRow divStep lessRow lessStep cleared clearStep clearRow cell normalStep observe observeStep addRow cellStep designRow designStep mirroredCell mirrorStep augmentedRow augmentStep augmentedMatrix range magnitude ofInt add sub mul div lt eq ofBits sumBelow table momentAt square
 computed = (
   record { same-beta = refl; same-matrix = refl; same-right = refl; same-product = refl; same-solution = refl },
   record { same-beta = refl; same-matrix = refl; same-right = refl; same-product = refl; same-solution = refl },

@@ -18,7 +18,7 @@ use Rattle.real.proofs.SignedOrder.{natural, nat-fin, in-fin, le-self, le-total
 use Rattle.real.proofs.Toward.{forward, width-finite, within-finite, toward-fin, toward-low, toward-high}
 use Rattle.golden.specs.declared.Bracket.{Bracket}
 use Rattle.golden.specs.Golden.{G, G2, startOf, firstOf, secondOf, aimOf, improvedOf, leftOf, rightOf, narrowOf}
-use Rattle.golden.specs.Kiefer.{Span, Inside, Within, Framed, Ordered, KieferRound, Narrowed, Valley, ScoredBy, Follows, opened, playedOf, triedOf, Among, Steady, Narrowing, pointsOf, SearchInside}
+use Rattle.golden.specs.Kiefer.{Span, Inside, Within, Framed, KieferRound, Narrowed, Valley, ScoredBy, Follows, opened, playedOf, triedOf, Among, Steady, Narrowing, pointsOf, SearchInside}
 use Rattle.golden.proofs.Round.{best-is, best-of-two}
 
 -- ---- the proportions: from 0 to 2 / 3
@@ -104,8 +104,7 @@ module _ (g : Bracket) where
 pub round-kiefer : (g : Bracket) (s : Float) → KieferRound g (narrowOf g s) s
 round-kiefer g s =
     by-side g s (λ k. KieferRound g k s)
-    (λ e x v. record { left = rw e; right = rw e; c = rw e; c-score = rw e; d = rw e; d-score = rw e; width = refl })
-    (λ e x v. record { left = rw e; right = rw e; c = rw e; c-score = rw e; d = rw e; d-score = rw e; width = refl })
+    (λ e x v. (rw e, refl)) (λ e x v. (rw e, refl))
 
 -- ---- every member
 abbrev pub Each : (Float → Type 0) → List Float → Type 0
@@ -123,14 +122,13 @@ module _ {lo hi : Float} (w : Span lo hi) where
   aim-inside g i = go (lt (g .fc) (g .fd)) refl
     where
       go : (b : Bool) → lt (g .fc) (g .fd) ≡ b → Inside lo hi (aimOf g)
-      go true e = rw (aim-left g e) (toward-inside w (i .a) (i .d) G2-share)
-      go false e = rw (aim-right g e) (toward-inside w (i .c) (i .b) G-share)
+      go true e = rw (aim-left g e) (toward-inside w (i .0) (i .3) G2-share)
+      go false e = rw (aim-right g e) (toward-inside w (i .2) (i .1) G-share)
 
   pub round-within : (g : Bracket) (s : Float) → Within lo hi g → Within lo hi (narrowOf g s)
   round-within g s i =
       by-side g s (Within lo hi)
-      (λ e x v. record { a = i .a; b = i .d; c = aim-inside g i; d = i .c })
-      (λ e x v. record { a = i .c; b = i .b; c = i .d; d = aim-inside g i })
+      (λ e x v. (i .0, i .3, aim-inside g i, i .2)) (λ e x v. (i .2, i .1, i .3, aim-inside g i))
 
   pub played-within : (g : Bracket) (l : List Float) → Within lo hi g → Within lo hi (playedOf g l)
   unfolding playedOf
@@ -153,7 +151,7 @@ module _ {lo hi : Float} (w : Span lo hi) where
         d = toward-inside w (low-inside w) (high-inside w) G-share;
       }
 
-  pub start-ordered : T (lt lo hi) → Ordered (startOf lo hi)
+  pub start-ordered : T (lt lo hi) → T (le (startOf lo hi .c) (startOf lo hi .d))
   unfolding startOf
   start-ordered h =
       let n = forward binary64 lo hi (w .low-held) (w .high-held) (w .low-finite) (w .high-finite) (w .width) h in
@@ -176,27 +174,25 @@ unfolding startOf
 opened-framed {lo} {hi} w s t = by-second (firstOf (startOf lo hi) s) t Framed (λ x v. record { span = w; c = start-framed w .c; d = start-framed w .d })
 
 -- ---- a round that begins in order narrows the bracket
-pub round-narrows : (g : Bracket) (s : Float) → Framed g → Ordered g → Narrowed g (narrowOf g s)
+pub round-narrows : (g : Bracket) (s : Float) → Framed g → T (le (g .c) (g .d)) → Narrowed g (narrowOf g s)
 round-narrows g s o h =
     by-side g s (Narrowed g)
     (λ e x v.
-    let p = part-span (o .span) (low-inside (o .span)) (o .d) (o .d .low) in
-    record {
-      left = le-self (g .a) (o .span .low-finite);
-      right = o .d .high;
-      framed = record { span = p; c = rw (aim-left g e) (toward-inside p (low-inside p) (high-inside p) G2-share); d = record { held = o .c .held; low = o .c .low; high = h } };
-    })
+    let p = part-span (o .span) (low-inside (o .span)) (o .d) (o .d .low) in (
+      le-self (g .a) (o .span .low-finite),
+      o .d .high,
+      record { span = p; c = rw (aim-left g e) (toward-inside p (low-inside p) (high-inside p) G2-share); d = record { held = o .c .held; low = o .c .low; high = h } },
+    ))
     (λ e x v.
-    let p = part-span (o .span) (o .c) (high-inside (o .span)) (o .c .high) in
-    record {
-      left = o .c .low;
-      right = le-self (g .b) (o .span .high-finite);
-      framed = record { span = p; c = record { held = o .d .held; low = h; high = o .d .high }; d = rw (aim-right g e) (toward-inside p (low-inside p) (high-inside p) G-share) };
-    })
+    let p = part-span (o .span) (o .c) (high-inside (o .span)) (o .c .high) in (
+      o .c .low,
+      le-self (g .b) (o .span .high-finite),
+      record { span = p; c = record { held = o .d .held; low = h; high = o .d .high }; d = rw (aim-right g e) (toward-inside p (low-inside p) (high-inside p) G-share) },
+    ))
 
 pub narrowing : (g : Bracket) (l : List Float) → Framed g → Steady g l → Narrowing g l
 narrowing g [] o h = tt
-narrowing g (s ∷ l) o h = let n = round-narrows g s o (h .0) in (n, narrowing (narrowOf g s) l (n .framed) (h .1))
+narrowing g (s ∷ l) o h = let n = round-narrows g s o (h .0) in (n, narrowing (narrowOf g s) l (n .2) (h .1))
 
 -- ---- the bottom of a valley stays in the bracket
 
@@ -223,8 +219,8 @@ pub bottom-kept : (f : Float → Float) (g : Bracket) (s m : Float) → T (lt (g
     → Valley f (g .c ∷ g .d ∷ []) m → Inside (g .a) (g .b) m → Inside (narrowOf g s .a) (narrowOf g s .b) m
 bottom-kept f g s m h w v i =
     by-side g s (λ k. Inside (k .a) (k .b) m)
-    (λ e x y. record { held = i .held; low = i .low; high = left (subst⁻¹ T (rw (w .c, w .d) at e) tt) (le-total m (g .d) n (less-numbers (g .c) (g .d) h .1)) })
-    (λ e x y. record { held = i .held; low = right (rw (w .c, w .d) at e) (le-total (g .c) m (less-numbers (g .c) (g .d) h .0) n); high = i .high })
+    (λ e x y. record { held = i .held; low = i .low; high = left (subst⁻¹ T (rw (w .0, w .1) at e) tt) (le-total m (g .d) n (less-numbers (g .c) (g .d) h .1)) })
+    (λ e x y. record { held = i .held; low = right (rw (w .0, w .1) at e) (le-total (g .c) m (less-numbers (g .c) (g .d) h .0) n); high = i .high })
   where
     n : T (not (isNan m))
     n = most-number (g .a) m (i .low)
@@ -261,7 +257,7 @@ later-points g s l x =
     right (inr h) = inr (inr h)
 
 next-scored : (f : Float → Float) (g : Bracket) (s : Float) → ScoredBy f g → s ≡ f (aimOf g) → ScoredBy f (narrowOf g s)
-next-scored f g s w h = by-side g s (ScoredBy f) (λ e x y. record { c = h; d = w .c }) (λ e x y. record { c = w .d; d = h })
+next-scored f g s w h = by-side g s (ScoredBy f) (λ e x y. (h, w .0)) (λ e x y. (w .1, h))
 
 -- and through any number of rounds
 pub bottom-stays : (f : Float → Float) (m : Float) (g : Bracket) (l : List Float) → ScoredBy f g → Follows f g l
@@ -275,7 +271,7 @@ bottom-stays f m g (s ∷ l) w r v i =
 
 -- in order or not, no later bracket or point leaves a bracket that frames its points
 framed-within : (g : Bracket) → Framed g → Within (g .a) (g .b) g
-framed-within g o = record { a = low-inside (o .span); b = high-inside (o .span); c = o .c; d = o .d }
+framed-within g o = (low-inside (o .span), high-inside (o .span), o .c, o .d)
 
 pub later-within : (g : Bracket) (l : List Float) → Framed g → Within (g .a) (g .b) (playedOf g l) × Each (Inside (g .a) (g .b)) (triedOf g l)
 later-within g l o = (played-within (o .span) g l (framed-within g o), tried-inside (o .span) g l (framed-within g o))
@@ -297,7 +293,7 @@ pub searched : {lo hi : Float} (w : Span lo hi) (s t : Float) (l : List Float) �
 unfolding startOf
 searched {lo} {hi} w s t l =
     let g = opened lo hi s t in
-    let i = by-second (firstOf (startOf lo hi) s) t (Within lo hi) (λ x v. record { a = low-inside w; b = high-inside w; c = start-framed w .c; d = start-framed w .d }) in
+    let i = by-second (firstOf (startOf lo hi) s) t (Within lo hi) (λ x v. (low-inside w, high-inside w, start-framed w .c, start-framed w .d)) in
     record {
       points = each-among (Inside lo hi) (pointsOf lo hi s t l) (start-framed w .c, (start-framed w .d, tried-inside w g l i));
       bracket = played-within w g l i;

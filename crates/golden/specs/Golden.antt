@@ -33,17 +33,7 @@ noBracket = record { a = zero64; b = zero64; c = zero64; d = zero64; h = zero64;
 unfoldable pub startOf : Float → Float → Bracket
 startOf lo hi =
     let h = sub binary64 hi lo in
-    record {
-      a = lo;
-      b = hi;
-      c = add binary64 lo (mul binary64 G2 h);
-      d = add binary64 lo (mul binary64 G h);
-      h = h;
-      fc = zero64;
-      fd = zero64;
-      best = zero64;
-      low = zero64;
-    }
+    record { a = lo; b = hi; c = add binary64 lo (mul binary64 G2 h); d = add binary64 lo (mul binary64 G h); h = h; fc = zero64; fd = zero64; best = zero64; low = zero64 }
 
 -- 000: `fc = f(c)`
 abbrev pub firstOf : Bracket → Float → Bracket

@@ -40,11 +40,8 @@ pub record Inside (lo hi x : Float) : Type 0 where
   pub high : T (le x hi)
 
 -- the ends of g and its inner points lie from lo to hi
-pub record Within (lo hi : Float) (g : Bracket) : Type 0 where
-  pub a : Inside lo hi (g .a)
-  pub b : Inside lo hi (g .b)
-  pub c : Inside lo hi (g .c)
-  pub d : Inside lo hi (g .d)
+abbrev pub Within : Float → Float → Bracket → Type 0
+Within lo hi g = Inside lo hi (g .a) × Inside lo hi (g .b) × Inside lo hi (g .c) × Inside lo hi (g .d)
 
 -- the inner points of g lie in the bracket
 pub record Framed (g : Bracket) : Type 0 where
@@ -52,28 +49,18 @@ pub record Framed (g : Bracket) : Type 0 where
   pub c : Inside (g .a) (g .b) (g .c)
   pub d : Inside (g .a) (g .b) (g .d)
 
--- c ≤ d, which holds in every bracket of the published method
-abbrev pub Ordered : Bracket → Type 0
-Ordered g = T (le (g .c) (g .d))
-
 -- ---- a round
 
 -- from g to k, whose trial scores s. Where c scores lower, the part from a to d is kept, c and its score are reused as d, and the new c is tried;
 -- where it does not, the part from c to b is kept, d and its score are reused as c, and the new d is tried
-pub record KieferRound (g k : Bracket) (s : Float) : Type 0 where
-  pub left : k .a ≡ cond (goesLeft g) (g .a) (g .c)
-  pub right : k .b ≡ cond (goesLeft g) (g .d) (g .b)
-  pub c : k .c ≡ cond (goesLeft g) (aimOf g) (g .d)
-  pub c-score : k .fc ≡ cond (goesLeft g) s (g .fd)
-  pub d : k .d ≡ cond (goesLeft g) (g .c) (aimOf g)
-  pub d-score : k .fd ≡ cond (goesLeft g) (g .fc) s
-  pub width : k .h ≡ sub binary64 (k .b) (k .a)
+abbrev pub KieferRound : Bracket → Bracket → Float → Type 0
+KieferRound g k s =
+    let after : Float × Float × Float × Float × Float × Float = (k .a, k .b, k .c, k .fc, k .d, k .fd) in
+    (after ≡ cond (goesLeft g) (g .a, g .d, aimOf g, s, g .c, g .fc) (g .c, g .b, g .d, g .fd, aimOf g, s)) × (k .h ≡ sub binary64 (k .b) (k .a))
 
 -- the bracket k lies within the bracket g, and its inner points lie in it
-pub record Narrowed (g k : Bracket) : Type 0 where
-  pub left : T (le (g .a) (k .a))
-  pub right : T (le (k .b) (g .b))
-  pub framed : Framed k
+abbrev pub Narrowed : Bracket → Bracket → Type 0
+Narrowed g k = T (le (g .a) (k .a)) × T (le (k .b) (g .b)) × Framed k
 
 -- ---- a search
 
@@ -96,10 +83,10 @@ abbrev pub Among : Float → List Float → Type 0
 Among x [] = ⊥
 Among x (y ∷ l) = (x ≡ y) ⊎ Among x l
 
--- the bracket of every round is ordered when the round begins
+-- the bracket of every round has c ≤ d when the round begins, as every bracket of the published method has
 abbrev pub Steady : Bracket → List Float → Type 0
 Steady g [] = Unit
-Steady g (s ∷ l) = Ordered g × Steady (narrowOf g s) l
+Steady g (s ∷ l) = T (le (g .c) (g .d)) × Steady (narrowOf g s) l
 
 -- every bracket lies within the one before
 abbrev pub Narrowing : Bracket → List Float → Type 0
@@ -124,9 +111,8 @@ pub record Valley (f : Float → Float) (points : List Float) (m : Float) : Type
   pub rises : (x y : Float) → Among x points → Among y points → T (le m x) → T (lt x y) → T (lt (f x) (f y))
 
 -- the scores of g's inner points are those of f
-pub record ScoredBy (f : Float → Float) (g : Bracket) : Type 0 where
-  pub c : g .fc ≡ f (g .c)
-  pub d : g .fd ≡ f (g .d)
+abbrev pub ScoredBy : (Float → Float) → Bracket → Type 0
+ScoredBy f g = (g .fc ≡ f (g .c)) × (g .fd ≡ f (g .d))
 
 -- every round tries f at its point, and its bracket has c < d when the round begins
 abbrev pub Follows : (Float → Float) → Bracket → List Float → Type 0
