@@ -1,11 +1,11 @@
 -- What the tests of demand 1's lists mean, one law for each kind of test. Definitions only.
-use Prim.Native.Nat.{ℕ, _*_, _<_}
+use Prim.Native.Nat.{ℕ, _≤_, _<_}
 use mathlib.Core.Path.{_≡_}
-use mathlib.Core.Bool.{Bool, true, not, _||_}
+use mathlib.Core.Bool.{Bool, true, not, _&&_, _||_}
 use mathlib.Core.List.{List}
 use mathlib.Core.Logic.{_⊎_}
-use lib.Dec.{T, eqb, ltb}
-use lib.ListN.{length, getD}
+use lib.Dec.{T, eqb, leb, ltb}
+use lib.ListN.{getD}
 use lib.Ieee.{Float, nan, lt, le, isNan}
 use lib.Ieee.Scale.{finite}
 use Rattle.real.specs.Reals.{zero64}
@@ -19,14 +19,11 @@ use Rattle.estimate.specs.Inverse.{inverseCell, inverseFinite}
 use Rattle.estimate.specs.Estimate.{coefficientsFinite}
 use Rattle.criterion.specs.declared.Criterion.{Criterion}
 use Rattle.plan.specs.Bounds.{greatestDistance}
-use Rattle.plan.specs.Checks.{lengthsFit, unusableGiven, nothingBetween}
+use Rattle.plan.specs.Checks.{unusableGiven, nothingBetween}
 use Rattle.plan.specs.Conditions.{SomeNotFinite, UnusableGiven, NothingBetween}
 use Rattle.stepping.specs.declared.Stage.{Stage}
 use Rattle.stepping.specs.declared.Stage.the-variants.{Ended}
-use Rattle.stepping.specs.declared.Job.{Job}
 use Rattle.stepping.specs.Step.{isEnded}
-use Rattle.stepping.specs.Sound.{endedSolve, Sound}
-use Rattle.job.specs.Fitness.{isFit}
 use Rattle.calls.specs.Options.{isUnknown, optionsOf}
 
 -- P of some number below m
@@ -34,11 +31,13 @@ abbrev pub Some : ℕ → (ℕ → Type 0) → Type 0
 Some m P = (q : ℕ) × (q < m) × P q
 
 pub record Meanings : Type 0 where
-  -- lengths, sizes and room: whole numbers that are equal, or one below the other
+  -- lengths, sizes, room, and a fit record's numbers: whole numbers that are equal, one below the other, or at most the other; 19 and 21 are made of these and of both
   pub equal : (a b : ℕ) → Means (eqb a b) (a ≡ b)
   pub below : (a b : ℕ) → Means (ltb a b) (a < b)
-  -- the contrary of a test, and either of two
+  pub at-most : (a b : ℕ) → Means (leb a b) (a ≤ b)
+  -- the contrary of a test, both of two, and either of two
   pub contrary : (b : Bool) → Means (not b) (b ≡ true → ⊥)
+  pub both : (a b : Bool) → Means (a && b) ((a ≡ true) × (b ≡ true))
   pub either : (a b : Bool) → Means (a || b) ((a ≡ true) ⊎ (b ≡ true))
   -- 8, 9, 10: some number is NaN or infinite; 9 of a distance: NaN or negative
   pub not-finite : (l : List Float) → Means (not (allFinite l)) (SomeNotFinite l)
@@ -54,8 +53,5 @@ pub record Meanings : Type 0 where
   pub coefficients : (beta : Row) (m : ℕ) → Means (not (coefficientsFinite beta m)) (Some m (λ (c : ℕ). T (not (finite (getD beta c nan)))))
   -- 18: kernels are 0 to 2, kinds 0 to 3
   pub unknown : (kernel kind bandwidth : ℕ) → Means (isUnknown (optionsOf kernel kind bandwidth)) ((2 < kernel) ⊎ (3 < kind))
-  -- 19, 20
-  pub fit : (j : Job) → Means (isFit j) (Sound (endedSolve (j .stage)) j)
+  -- 20
   pub ended : (x : Stage) → Means (isEnded x) ((c : Criterion) × (x ≡ Ended c))
-  -- 21
-  pub lengths : (u : Setup) (d : Data) → Means (lengthsFit u d) ((length (d .coords) ≡ 2 * u .n) × ((length (d .predictors) ≡ u .n * u .p) × (length (d .responses) ≡ u .n)))

@@ -12,7 +12,6 @@ use Rattle.setup.specs.declared.Setup.{Setup}
 use Rattle.plan.specs.declared.Plan.{Plan}
 use Rattle.plan.specs.declared.Plan.the-variants as plan
 use Rattle.plan.specs.Bounds.{bandwidthAt}
-use Rattle.sweep.specs.declared.Finish.{Finish}
 use Rattle.sweep.specs.declared.Finish.the-variants as finish
 use Rattle.search.specs.declared.Trial.{Trial}
 use Rattle.search.specs.Trial.{trialOf}
@@ -23,12 +22,9 @@ use Rattle.job.specs.declared.Answer.{Answer}
 use Rattle.job.specs.declared.Answer.the-variants as answer
 
 -- 01: the solve count is the number of local solves in all sweeps, failing ones included; the fit's summary has it
-abbrev pub solvesIn : Finish → ℕ
-solvesIn (finish.Fitted s) = s .solves
-solvesIn (finish.Failed r s) = s .solves
-
 abbrev pub countOf : FitAnswer → ℕ
-countOf (fit.Done f) = solvesIn f
+countOf (fit.Done (finish.Fitted s)) = s .solves
+countOf (fit.Done (finish.Failed r s)) = s .solves
 countOf (fit.Rejected r) = 0
 
 -- 01: a turn answers ended with the summary and any refusal: those of the fit
@@ -37,14 +33,10 @@ endedWith (fit.Done f) = answer.Ended f
 endedWith (fit.Rejected r) = answer.Refused r
 
 -- 01: the final fit is at the point `golden_section_min` finds, at lo (L) if a search has no trial, and unsearched at the given distance or count; the plan has all but the first
-abbrev pub finalBandwidth : Plan → Setup → Data → GwrBandwidth
-finalBandwidth (plan.Settled b) u d = b
-finalBandwidth (plan.Sought lo hi) u d = bandwidthAt u (goldenSectionMin (trialOf u d) lo hi .0)
-
--- the solves made before the final fit
-abbrev pub searchSolves : Plan → Setup → Data → ℕ
-searchSolves (plan.Settled b) u d = 0
-searchSolves (plan.Sought lo hi) u d = goldenSectionMin (trialOf u d) lo hi .1
+-- its bandwidth, and the solves made before it
+abbrev pub toFinal : Plan → Setup → Data → GwrBandwidth × ℕ
+toFinal (plan.Settled b) u d = (b, 0)
+toFinal (plan.Sought lo hi) u d = let m = goldenSectionMin (trialOf u d) lo hi in (bandwidthAt u (m .0), m .1)
 
 -- ---- the trials of a search, in their order
 

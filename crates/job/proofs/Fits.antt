@@ -15,8 +15,8 @@ use Rattle.checks.proofs.Means.{and-means, equal-means, below-means}
 use Rattle.stepping.specs.declared.Stage.{Stage}
 use Rattle.stepping.specs.declared.Stage.the-variants.{First, Second, Round, Final, Ended}
 use Rattle.stepping.specs.declared.Job.{Job}
-use Rattle.stepping.specs.Step.{isEnded, stepJob}
-use Rattle.stepping.specs.Sound.{OfKind, TrialsAt, endedSolve, Sound}
+use Rattle.stepping.specs.Step.{isEnded, endedSolve, stepJob}
+use Rattle.stepping.specs.Sound.{OfKind, TrialsAt, Sound}
 use Rattle.stepping.proofs.Sounds.{trials-few}
 use Rattle.stepping.proofs.Keeping.{step-held}
 use Rattle.job.specs.Fitness.{sizesFit, kindsFit, trialsFit, solvesFit, isFit}

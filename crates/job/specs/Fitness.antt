@@ -8,7 +8,7 @@ use Rattle.setup.specs.declared.Setup.{Setup}
 use Rattle.stepping.specs.declared.Stage.{Stage}
 use Rattle.stepping.specs.declared.Stage.the-variants.{First, Second, Round, Final, Ended}
 use Rattle.stepping.specs.declared.Job.{Job}
-use Rattle.stepping.specs.Sound.{endedSolve}
+use Rattle.stepping.specs.Step.{endedSolve}
 
 -- 1 ≤ n ≤ 512, p ≤ 7, n ≥ p + 1, location < n; n ≥ 1 follows from n ≥ p + 1
 unfoldable pub sizesFit : Setup → ℕ → Bool

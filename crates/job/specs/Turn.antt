@@ -10,11 +10,11 @@ use Rattle.setup.specs.declared.Setup.{Setup}
 use Rattle.setup.specs.Data.{Data}
 use Rattle.checks.specs.Judge.{judge, ruled}
 use Rattle.plan.specs.Checks.{lengthsFit, valueTests, roomTests}
+use Rattle.criterion.specs.declared.Criterion.{Criterion}
 use Rattle.sweep.specs.Finish.{finishOf}
 use Rattle.stepping.specs.declared.Stage.{Stage}
-use Rattle.stepping.specs.declared.Stage.the-variants.{First, Second, Round, Final, Ended}
 use Rattle.stepping.specs.declared.Job.{Job}
-use Rattle.stepping.specs.Step.{stepOf, isEnded, isOver}
+use Rattle.stepping.specs.Step.{stepOf, byStage, isEnded, isOver}
 use Rattle.job.specs.declared.Answer.{Answer}
 use Rattle.job.specs.declared.Answer.the-variants as answer
 use Rattle.job.specs.declared.Turned.{Turned}
@@ -35,11 +35,7 @@ turnTests j d out = (not (isFit j), UnfitRecord) ∷ (isEnded (j .stage), Alread
 
 -- working, or ended with the summary and any refusal
 abbrev pub answerAt : Stage → Job → Answer
-answerAt First j = answer.Working
-answerAt Second j = answer.Working
-answerAt Round j = answer.Working
-answerAt Final j = answer.Working
-answerAt (Ended c) j = answer.Ended (finishOf c (j .bandwidth) (j .solves))
+answerAt x j = byStage answer.Working answer.Working (λ (c : Criterion). answer.Ended (finishOf c (j .bandwidth) (j .solves))) x
 
 -- of a job after so many steps
 abbrev pub tellOf : Job → ℕ → Turned

@@ -31,8 +31,8 @@ use Rattle.sweep.specs.Sweep.{addValues, nextLocation, rowFound, rowAfter}
 use Rattle.stepping.specs.declared.Stage.{Stage}
 use Rattle.stepping.specs.declared.Stage.the-variants.{First, Second, Round, Final, Ended}
 use Rattle.stepping.specs.declared.Job.{Job}
-use Rattle.stepping.specs.Step.{isEnded, isFinal, nextSweep, isLastRound, closeAt, closeJob, solvedJob, passJob, afterOutcome, solveOf, stepJob, stepOut, stepOf, isOver}
-use Rattle.stepping.specs.Sound.{OfKind, TrialsAt, endedSolve, Sound}
+use Rattle.stepping.specs.Step.{isEnded, isFinal, endedSolve, nextSweep, isLastRound, closeAt, closeJob, solvedJob, passJob, afterOutcome, solveOf, stepJob, stepOut, stepOf, isOver}
+use Rattle.stepping.specs.Sound.{OfKind, TrialsAt, Sound}
 use Rattle.stepping.proofs.Sounds.{solved-sound}
 
 -- sound as it is, ended or not

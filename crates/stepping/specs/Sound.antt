@@ -24,14 +24,6 @@ TrialsAt Round t = (2 ≤ t) × (t ≤ 101)
 TrialsAt Final t = t ≤ 102
 TrialsAt (Ended c) t = t ≤ 102
 
--- 01: plus 1 once ended
-abbrev pub endedSolve : Stage → ℕ
-endedSolve First = 0
-endedSolve Second = 0
-endedSolve Round = 0
-endedSolve Final = 0
-endedSolve (Ended c) = 1
-
 -- 01's list of what a fit record is, where the current location has been solved so many times: 0 before a step, 1 within it and once ended
 pub record Sound (made : ℕ) (j : Job) : Type 0 where
   pub sized : Sized (j .setup)

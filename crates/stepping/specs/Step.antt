@@ -23,21 +23,25 @@ use Rattle.stepping.specs.declared.Stage.{Stage}
 use Rattle.stepping.specs.declared.Stage.the-variants.{First, Second, Round, Final, Ended}
 use Rattle.stepping.specs.declared.Job.{Job}
 
+-- one thing in a search, one in the final fit, and once ended what its ending says
+abbrev pub byStage : {A : Type 0} → A → A → (Criterion → A) → Stage → A
+byStage search final ended First = search
+byStage search final ended Second = search
+byStage search final ended Round = search
+byStage search final ended Final = final
+byStage search final ended (Ended c) = ended c
+
 -- whether a job at this stage has ended
 abbrev pub isEnded : Stage → Bool
-isEnded First = false
-isEnded Second = false
-isEnded Round = false
-isEnded Final = false
-isEnded (Ended c) = true
+isEnded x = byStage false false (λ (c : Criterion). true) x
 
 -- whether its solves write rows
 abbrev pub isFinal : Stage → Bool
-isFinal First = false
-isFinal Second = false
-isFinal Round = false
-isFinal Final = true
-isFinal (Ended c) = false
+isFinal x = byStage false true (λ (c : Criterion). false) x
+
+-- the solve that a job has made of its location: 01's plus 1 once ended
+abbrev pub endedSolve : Stage → ℕ
+endedSolve x = cond (isEnded x) 1 0
 
 -- a job that has made nothing yet
 abbrev pub freshJob : Setup → Stage → Bracket → GwrBandwidth → Job

@@ -26,7 +26,7 @@ use Rattle.job.specs.declared.Begun.{Begun}
 use Rattle.job.specs.Fitness.{sizesFit, isFit}
 use Rattle.job.specs.Begin.{begunWith, beginOf}
 use Rattle.job.proofs.Fits.{fit-means}
-use Rattle.claims.specs.Whole.{finalBandwidth, searchSolves}
+use Rattle.claims.specs.Whole.{toFinal}
 use Rattle.claims.specs.Turns.{AllLawful}
 use Rattle.claims.specs.DemandOne.{JobServed, BeginRefused, BeginServed}
 use Rattle.claims.proofs.Starting.{started}
@@ -57,7 +57,7 @@ module _ (d : Data) (p : ℕ) (o : GwrOptions) where
     fit-served h =
         let z = demand-three d p o out (ready h) [] tt in
         let a = started d p o out (ready h) .accepted in
-        let f = subst⁻¹ (Finished u d (finalBandwidth q u d) (searchSolves q u d) out) (z .final) (final-finished u d (finalBandwidth q u d) (searchSolves q u d) out (a .room) (a .shaped .sized .narrow)) in
+        let f = subst⁻¹ (Finished u d (toFinal q u d .0) (toFinal q u d .1) out) (z .final) (final-finished u d (toFinal q u d .0) (toFinal q u d .1) out (a .room) (a .shaped .sized .narrow)) in
         record { answered = f .answered; written = f .written; untouched = f .untouched; long = f .long; solves = z .bound }
 
     pub fit-decides : Decides (fitTests d p o (length out)) (λ (r : Refusal). gwrFit d p o out ≡ (record { answer = fit.Rejected r; rows = 0 }, out)) (JobServed d p o out)

@@ -2,16 +2,16 @@
 use mathlib.Core.Path.{_≡_, refl, sym, subst}
 use mathlib.Core.Bool.{Bool, true, false, not, _||_}
 use mathlib.Core.Logic.{_⊎_}
+use borrow.Author.Tests.{leb-true, le-leb}
 use lib.Dec.{T}
 use Rattle.checks.specs.Judge.{Means}
-use Rattle.checks.proofs.Means.{not-means, or-means, equal-means, below-means}
+use Rattle.checks.proofs.Means.{not-means, and-means, or-means, equal-means, below-means}
 use Rattle.estimate.proofs.Meanings.{inverse-not-finite-means, coefficient-not-finite-means}
 use Rattle.criterion.specs.declared.Criterion.{Criterion}
-use Rattle.plan.proofs.Meanings.{not-finite-means, unusable-distance-means, no-distance-range-means, lengths-fit-means}
+use Rattle.plan.proofs.Meanings.{not-finite-means, unusable-distance-means, no-distance-range-means}
 use Rattle.stepping.specs.declared.Stage.{Stage}
 use Rattle.stepping.specs.declared.Stage.the-variants.{First, Second, Round, Final, Ended}
 use Rattle.stepping.specs.Step.{isEnded}
-use Rattle.job.proofs.Fits.{fit-means}
 use Rattle.calls.proofs.Meanings.{unknown-means, distance-means}
 use Rattle.claims.specs.Meanings.{Meanings}
 use Rattle.claims.proofs.Cases.{never}
@@ -38,7 +38,9 @@ meanings =
     record {
       equal = equal-means;
       below = below-means;
+      at-most = λ a b. (leb-true a b, le-leb a b);
       contrary = λ b. not-means b (itself b);
+      both = λ a b. and-means a b (itself a) (itself b);
       either = λ a b. or-means a b (itself a) (itself b);
       not-finite = not-finite-means;
       negative = distance-means;
@@ -47,7 +49,5 @@ meanings =
       inverse = inverse-not-finite-means;
       coefficients = coefficient-not-finite-means;
       unknown = unknown-means;
-      fit = fit-means;
       ended = ended-means;
-      lengths = lengths-fit-means;
     }

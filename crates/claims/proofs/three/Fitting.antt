@@ -23,6 +23,7 @@ use Rattle.sweep.specs.Finish.{finishOf}
 use Rattle.sweep.proofs.Reached.{ReachedAt, sweep-reached, stopped-at, reached-few}
 use Rattle.search.specs.Search.{optimizeBandwidth}
 use Rattle.gwr.specs.declared.Fit.{Fit}
+use Rattle.gwr.specs.declared.FitAnswer.the-variants as fit
 use Rattle.gwr.specs.Fit.{finalOf, soughtOf, planned}
 use Rattle.stepping.specs.declared.Stage.the-variants.{Final}
 use Rattle.stepping.specs.Step.{stepOf, isOver}
@@ -30,14 +31,14 @@ use Rattle.job.specs.Begin.{startJob}
 use Rattle.job.specs.Run.{steps}
 use Rattle.job.specs.Turn.{answerAt}
 use Rattle.claims.specs.Written.{rowsEnded, writtenRows}
-use Rattle.claims.specs.Whole.{solvesIn, countOf, endedWith, trialsOf}
+use Rattle.claims.specs.Whole.{countOf, endedWith, trialsOf}
 use Rattle.claims.specs.Turns.{JobState}
 use Rattle.claims.proofs.Untouched.{aic-rows, at-rows}
 use Rattle.claims.proofs.three.Leading.{leads-none, leads-then}
 use Rattle.claims.proofs.three.Sweeping.{startAt, lastAt, Leading, swept, sweep-leads}
 use Rattle.claims.proofs.three.Searching.{golden-leads}
 
-count-is : (c : Criterion) (b : GwrBandwidth) (k : ℕ) → solvesIn (finishOf c b k) ≡ k
+count-is : (c : Criterion) (b : GwrBandwidth) (k : ℕ) → countOf (fit.Done (finishOf c b k)) ≡ k
 count-is (criterion.Value v) b k = refl
 count-is (criterion.Refused r) b k = refl
 
