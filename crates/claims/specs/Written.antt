@@ -5,7 +5,6 @@ use lib.Dec.{eqb}
 use Rattle.refusal.specs.Numbers.{refusalNumber}
 use Rattle.criterion.specs.declared.Criterion.{Criterion}
 use Rattle.criterion.specs.declared.Criterion.the-variants as criterion
-use Rattle.stepping.specs.declared.Stage.{Stage}
 use Rattle.stepping.specs.declared.Job.{Job}
 use Rattle.stepping.specs.Step.{byStage}
 
@@ -14,13 +13,10 @@ abbrev pub rowsEnded : Criterion → ℕ → ℕ → ℕ
 rowsEnded (criterion.Value v) n i = n
 rowsEnded (criterion.Refused r) n i = cond (eqb (refusalNumber r) 17) n i
 
--- 01: only the final fit writes, row by row; at this stage and location, of n rows
-abbrev pub rowsAt : Stage → ℕ → ℕ → ℕ
-rowsAt x n i = byStage 0 i (λ (c : Criterion). rowsEnded c n i) x
-
--- how many rows, and how many numbers at the front of the output
+-- 01: only the final fit writes, row by row
 abbrev pub writtenRows : Job → ℕ
-writtenRows j = rowsAt (j .stage) (j .setup .n) (j .sweep .location)
+writtenRows j = byStage 0 (j .sweep .location) (λ (c : Criterion). rowsEnded c (j .setup .n) (j .sweep .location)) (j .stage)
 
+-- how many numbers at the front of the output
 abbrev pub written : Job → ℕ
 written j = writtenRows j * (j .setup .p + 4)

@@ -9,6 +9,7 @@ use lib.ListN.{length}
 use lib.Ieee.{Float}
 use Rattle.refusal.specs.declared.Refusal.{Refusal}
 use Rattle.refusal.specs.declared.Refusal.the-variants.{UnfitRecord, AlreadyEnded, LengthsDiffer}
+use Rattle.setup.specs.declared.GwrBandwidth.{GwrBandwidth}
 use Rattle.setup.specs.declared.Setup.{Setup}
 use Rattle.setup.specs.Bandwidth.{Usable}
 use Rattle.setup.specs.Data.{Data}
@@ -25,7 +26,7 @@ use Rattle.sweep.specs.Finish.{finishOf}
 use Rattle.stepping.specs.declared.Stage.{Stage}
 use Rattle.stepping.specs.declared.Stage.the-variants.{Ended}
 use Rattle.stepping.specs.declared.Job.{Job}
-use Rattle.stepping.specs.Step.{isEnded, stepOf, isOver}
+use Rattle.stepping.specs.Step.{byStage, isEnded, stepOf, isOver}
 use Rattle.stepping.specs.Sound.{Sound}
 use Rattle.stepping.proofs.Sounds.{sound-usable}
 use Rattle.stepping.proofs.Keeping.{held-live, sound-held, Holds, holds-step}
@@ -102,8 +103,9 @@ module _ (j : Job) (d : Data) (out : List Float) (a : ℕ) where
 
 -- ---- what a job says of itself
 
-pub answer-ended : (x : Stage) (c : Criterion) (j : Job) (f : Finish) → x ≡ Ended c → f ≡ finishOf c (j .bandwidth) (j .solves) → answer.Ended f ≡ answerAt x j
-answer-ended x c j f e h = ap answer.Ended h ∙ sym (ap (λ (y : Stage). answerAt y j) e)
+pub answer-ended : (x : Stage) (c : Criterion) (b : GwrBandwidth) (k : ℕ) (f : Finish) → x ≡ Ended c → f ≡ finishOf c b k
+    → answer.Ended f ≡ byStage answer.Working answer.Working (λ (z : Criterion). answer.Ended (finishOf z b k)) x
+answer-ended x c b k f e h = ap answer.Ended h ∙ sym (ap (byStage answer.Working answer.Working (λ (z : Criterion). answer.Ended (finishOf z b k))) e)
 
 pub tell-is : (j : Job) (steps : ℕ) (r : Answer) → r ≡ answerAt (j .stage) j → _≡_ {A = Turned} (record { answer = r; steps = steps; job = j }) (tellOf j steps)
 tell-is j steps r e = ap (λ (x : Answer). record { answer = x; steps = steps; job = j }) e

@@ -21,6 +21,7 @@ use Rattle.sweep.specs.declared.Sweep.{Sweep}
 use Rattle.sweep.specs.Sweep.{newSweep, addValues, nextLocation, rowAfter}
 use Rattle.stepping.specs.declared.Stage.{Stage}
 use Rattle.stepping.specs.declared.Stage.the-variants.{First, Second, Round, Final, Ended}
+use Rattle.stepping.specs.declared.Trials.{Trials}
 use Rattle.stepping.specs.declared.Job.{Job}
 
 -- one thing in a search, one in the final fit, and once ended what its ending says
@@ -52,14 +53,8 @@ freshJob u x g b = record { setup = u; stage = x; trials = record { bracket = g;
 -- 01: a trial scored: trials rise by one, location and sums go to zero; the next sweep is at a point, x its stage
 abbrev pub nextSweep : Job → Stage → Bracket → Float → Job
 nextSweep j x g point =
-    record {
-      setup = j .setup;
-      stage = x;
-      trials = record { bracket = g; made = j .trials .made + 1 };
-      bandwidth = bandwidthAt (j .setup) point;
-      sweep = newSweep;
-      solves = j .solves;
-    }
+    let t : Trials = record { bracket = g; made = j .trials .made + 1 } in
+    record { setup = j .setup; stage = x; trials = t; bandwidth = bandwidthAt (j .setup) point; sweep = newSweep; solves = j .solves }
 
 -- 01: trial 1 is c, trial 2 is d
 abbrev pub closeFirst : Job → Float → Job
