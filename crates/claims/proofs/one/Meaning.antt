@@ -8,10 +8,11 @@ use Rattle.checks.specs.Judge.{Means}
 use Rattle.checks.proofs.Means.{not-means, and-means, or-means, equal-means, below-means}
 use Rattle.estimate.proofs.Meanings.{inverse-not-finite-means, coefficient-not-finite-means}
 use Rattle.criterion.specs.declared.Criterion.{Criterion}
-use Rattle.plan.proofs.Meanings.{not-finite-means, unusable-distance-means, no-distance-range-means}
+use Rattle.plan.proofs.Meanings.{not-finite-means, unusable-distance-means, no-distance-range-means, lengths-fit-means}
 use Rattle.stepping.specs.declared.Stage.{Stage}
 use Rattle.stepping.specs.declared.Stage.the-variants.{First, Second, Round, Final, Ended}
 use Rattle.stepping.specs.Step.{isEnded}
+use Rattle.job.proofs.Fits.{kinds-means}
 use Rattle.calls.proofs.Meanings.{unknown-means, distance-means}
 use Rattle.claims.specs.Meanings.{Meanings}
 use Rattle.claims.proofs.Cases.{never}
@@ -49,5 +50,7 @@ meanings =
       inverse = inverse-not-finite-means;
       coefficients = coefficient-not-finite-means;
       unknown = unknown-means;
+      kinds = kinds-means;
       ended = ended-means;
+      lengths = lengths-fit-means;
     }
