@@ -1,5 +1,5 @@
 #!/usr/bin/env bash
-# All tests: layout of the files; the tables of definitions and theorems (README) and of functions without an ensures
+# All tests: layout of the files; the tables of definitions and theorems (README), names, and of functions without an ensures
 # (docs/DECISIONS.md); proofs with must-fail edits and programs (rt ci); stored runs of gwrprint (scripts/listings.sh) and every prefix
 # of one; the Rust side (scripts/rust.sh: its tests, and the comparison with 000); and what the proofs assume.
 # The last line is 'N passed, M failed', and the exit status says whether M is 0. The line before it is about the comparison: where
@@ -14,6 +14,8 @@ bash scripts/reading.sh
 note $? "the table of definitions in README (scripts/reading.sh fix)"
 bash scripts/theorems.sh
 note $? "the tables of theorems in README"
+bash scripts/names.sh
+note $? "names that specs/ define twice (scripts/names.sh)"
 bash scripts/contracts.sh
 note $? "the functions without an ensures in docs/DECISIONS.md (scripts/contracts.sh list)"
 

@@ -1,14 +1,14 @@
 -- Bytes laid over the front of a list: those of rows, those of a summary, and what a call's zeros are.
 use mathlib.Core.Path.{_≡_, refl, sym, ap, _∙_}
 use mathlib.Core.List.{List, [], _∷_, _++_, append-assoc}
-use Prim.Native.Nat.{ℕ, zero, suc, _+_, _*_, _≤_, _<_}
+use Prim.Native.Nat.{ℕ, zero, suc, _+_, _*_, _≤_}
 use native.Mathlib.Omega.{arith}
 use lib.ListN.{length, take, drop, replicate, length-append, length-replicate}
 use lib.Seq.{length-take-le, take-at}
 use lib.Ieee.{Float}
 use Rattle.wire.specs.Wire.{bitsOf, bytesOf, realBytes, reals, placed}
 use Rattle.wire.proofs.Numbers.{length-bytesOf}
-use Rattle.wire.proofs.Placed.{placed-more, length-placed}
+use Rattle.wire.proofs.Placed.{placed-more}
 use Rattle.wire.proofs.Encoding.{length-realBytes}
 use Rattle.wire.proofs.Decoding.{length-reals}
 use Rattle.criterion.specs.declared.Summary.{Summary}

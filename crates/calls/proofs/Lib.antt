@@ -1,4 +1,6 @@
-pub mod Bounds
 pub mod Bytes
 pub mod Answers
+pub mod Judged
 pub mod Counts
+pub mod Served
+pub mod Meanings

@@ -1,34 +1,33 @@
--- The byte calls: what they answer, and every byte that they leave. Definitions only.
+-- The byte calls: the list of tests of each, what they answer, and every byte that they leave. Definitions only.
 use Prim.Native.Nat.{ℕ, _+_, _*_, _/_, _%_, _≤_}
-use mathlib.Core.Bool.{Bool, cond, not}
+use mathlib.Core.Path.{_≡_}
+use mathlib.Core.Bool.{Bool, cond, not, _||_}
 use mathlib.Core.List.{List, [], _∷_, _++_}
 use lib.Dec.{eqb, ltb}
 use lib.ListN.{length, take, replicate}
-use lib.Ieee.{Float}
+use lib.Ieee.{Float, le}
 use Rattle.real.specs.Reals.{zero64}
 use Rattle.wire.specs.Wire.{bitsOf, realOf, bytesOf, reals, realBytes, placed}
 use Rattle.refusal.specs.Numbers.{refusalNumber}
 use Rattle.refusal.specs.declared.Refusal.{Refusal}
-use Rattle.refusal.specs.declared.Refusal.the-variants.{NoCoordinates, OddCoordinates, TooManyObservations, TooManyPredictors, PredictorLength, ResponseLength, CoordinateNotFinite, OutputTooShort, UnknownNumber}
+use Rattle.refusal.specs.declared.Refusal.the-variants.{NoCoordinates, OddCoordinates, TooManyObservations, TooManyPredictors, PredictorLength, ResponseLength, TooFewObservations, CoordinateNotFinite, OutputTooShort, UnknownNumber}
+use Rattle.checks.specs.Judge.{judge, ruled}
 use Rattle.kernel.specs.declared.Weighed.{Weighed}
 use Rattle.kernel.specs.declared.Weighed.the-variants.{Weight, BadDistance}
-use Rattle.kernel.specs.Weight.{weighed}
+use Rattle.kernel.specs.Weight.{weightOf}
+use Rattle.setup.specs.declared.GwrOptions.{GwrOptions}
+use Rattle.setup.specs.Data.{Data, dataOf}
+use Rattle.setup.specs.Shape.{setupOf}
 use Rattle.criterion.specs.declared.Summary.{Summary}
-use Rattle.plan.specs.declared.GwrOptions.{GwrOptions}
-use Rattle.plan.specs.declared.Check.{Check}
-use Rattle.plan.specs.declared.Check.the-variants as check
-use Rattle.plan.specs.Checks.{judge}
+use Rattle.plan.specs.Checks.{valueTests, optionTests}
+use Rattle.sweep.specs.declared.Finish.the-variants.{Fitted, Failed}
 use Rattle.gwr.specs.declared.FitAnswer.{FitAnswer}
-use Rattle.gwr.specs.declared.FitAnswer.the-variants.{Fitted, Failed, Rejected}
+use Rattle.gwr.specs.declared.FitAnswer.the-variants.{Done, Rejected}
 use Rattle.gwr.specs.declared.Fit.{Fit}
-use Rattle.gwr.specs.Fit.{fitOf}
-use Rattle.calls.specs.declared.KernelChoice.{KernelChoice}
-use Rattle.calls.specs.declared.KernelChoice.the-variants as kernel
-use Rattle.calls.specs.declared.Choice.{Choice}
-use Rattle.calls.specs.declared.Choice.the-variants as choice
-use Rattle.calls.specs.Options.{kernelOf, optionsOf}
+use Rattle.gwr.specs.Fit.{gwrFit}
+use Rattle.calls.specs.Options.{kernelOf, isUnknownKernel, namedKernel, optionsOf, isUnknown, named}
 
--- ---- byte lengths
+-- ---- the fit call's tests
 
 -- 01: 5 predictor bytes not 8·n·p, 6 response bytes not 8·n
 unfoldable pub partTests : ℕ → ℕ → ℕ → ℕ → List (Bool × Refusal)
@@ -43,78 +42,112 @@ byteTests coords x y p =
     ∷ (ltb 7 p, TooManyPredictors)
     ∷ partTests x y (coords / 16) p
 
--- how many numbers the fit may write: n rows, or none where the output has fewer than 8·n·(p + 4) bytes or the summary fewer than 24
-unfoldable pub roomOf : ℕ → ℕ → ℕ → ℕ → ℕ
-roomOf n p out summary = cond (ltb summary 24) 0 (cond (ltb out (8 * (n * (p + 4)))) 0 (n * (p + 4)))
+-- the numbers that the bytes of coordinates, predictors and responses are, of p predictors; n is a sixteenth of the coordinates' bytes
+abbrev pub numbersOf : List ℕ → List ℕ → List ℕ → ℕ → Data
+numbersOf coords x y p = let n = length coords / 16 in dataOf (reals coords (2 * n)) (reals x (n * p)) (reals y n)
 
--- ---- the fit
+-- 01: 13 the output has fewer than 8·n·(p + 4) bytes, or the summary fewer than 24
+abbrev pub lentTooShort : ℕ → ℕ → ℕ → ℕ → Bool
+lentTooShort n p out summary = ltb out (8 * (n * (p + 4))) || ltb summary 24
+
+-- 01's order behind the byte lengths: 7, 8 to 10, 13 of the bytes lent for output and summary, 11, 12
+unfoldable pub numberTests : List ℕ → List ℕ → List ℕ → ℕ → GwrOptions → ℕ → ℕ → List (Bool × Refusal)
+numberTests coords x y p o out summary =
+    let n = length coords / 16 in
+    let d = numbersOf coords x y p in
+    (ltb n (p + 1), TooFewObservations)
+    ∷ (valueTests d ++ ((lentTooShort n p out summary, OutputTooShort) ∷ optionTests (setupOf d p o) d))
+
+-- 01's order for the fit call: 18, 1 to 6 of bytes, then as above
+unfoldable pub callTests : List ℕ → List ℕ → List ℕ → ℕ → ℕ → ℕ → ℕ → ℕ → ℕ → List (Bool × Refusal)
+callTests coords x y p kernel kind bandwidth out summary =
+    let c = optionsOf kernel kind bandwidth in
+    (isUnknown c, UnknownNumber)
+    ∷ (byteTests (length coords) (length x) (length y) p ++ numberTests coords x y p (named c) out summary)
+
+-- ---- the fit call
 
 -- a refusal's number or 0, the output and the summary after the call
-abbrev pub After : Type 0
-After = ℕ × (List ℕ × List ℕ)
+abbrev pub AfterCall : Type 0
+AfterCall = ℕ × (List ℕ × List ℕ)
 
 -- a refusal from the input writes nothing at all
-abbrev pub refused : Refusal → List ℕ → List ℕ → After
-refused r out summary = (refusalNumber r, (out, summary))
+abbrev pub refusedCall : Refusal → List ℕ → List ℕ → AfterCall
+refusedCall r out summary = (refusalNumber r, (out, summary))
 
 -- bandwidth, AICc and solves, 8 bytes each
 unfoldable pub summaryBytes : Summary → List ℕ
 summaryBytes v = bytesOf (bitsOf (v .bandwidth)) ++ (bytesOf (bitsOf (v .aicc)) ++ bytesOf (v .solves))
 
 -- rows and summary over the front of the bytes lent for them
-unfoldable pub written : ℕ → List Float → Summary → List ℕ → List ℕ → After
-written number rows v out summary = (number, (placed out 0 (realBytes rows), placed summary 0 (summaryBytes v)))
+unfoldable pub placedRows : ℕ → List Float → Summary → List ℕ → List ℕ → AfterCall
+placedRows number rows v out summary = (number, (placed out 0 (realBytes rows), placed summary 0 (summaryBytes v)))
 
 -- a refusal met while solving keeps the rows before it
-abbrev pub answerBytes : FitAnswer → List Float → List ℕ → List ℕ → After
-answerBytes (Fitted v) rows out summary = written 0 rows v out summary
-answerBytes (Failed r v) rows out summary = written (refusalNumber r) rows v out summary
-answerBytes (Rejected r) rows out summary = refused r out summary
+abbrev pub answerBytes : FitAnswer → List Float → List ℕ → List ℕ → AfterCall
+answerBytes (Done (Fitted v)) rows out summary = placedRows 0 rows v out summary
+answerBytes (Done (Failed r v)) rows out summary = placedRows (refusalNumber r) rows v out summary
+answerBytes (Rejected r) rows out summary = refusedCall r out summary
 
 -- a fit's answer, with as many rows of p + 4 numbers as it says
-abbrev pub fitted : ℕ → Fit × List Float → List ℕ → List ℕ → After
-fitted p f out summary = answerBytes (f .0 .answer) (take (f .0 .rows * (p + 4)) (f .1)) out summary
+abbrev pub fittedBytes : ℕ → Fit × List Float → List ℕ → List ℕ → AfterCall
+fittedBytes p f out summary = answerBytes (f .0 .answer) (take (f .0 .rows * (p + 4)) (f .1)) out summary
 
--- the fit of bytes of the right lengths
-unfoldable pub fitParts : List ℕ → List ℕ → List ℕ → ℕ → ℕ → GwrOptions → List ℕ → List ℕ → After
-fitParts coords x y n p o out summary =
-    fitted p
-    (fitOf (reals coords (2 * n)) (reals x (n * p)) (reals y n) p o (replicate (roomOf n p (length out) (length summary)) zero64))
-    out summary
+-- the fit of the numbers, with an output of n rows
+abbrev pub numbersFit : List ℕ → List ℕ → List ℕ → ℕ → GwrOptions → Fit × List Float
+numbersFit coords x y p o = gwrFit (numbersOf coords x y p) p o (replicate (length coords / 16 * (p + 4)) zero64)
 
-abbrev pub checked : Check → After → List ℕ → List ℕ → After
-checked check.Pass after out summary = after
-checked (check.Refused r) after out summary = refused r out summary
+-- the first test that holds refuses; where none holds, the fit of the numbers is answered
+unfoldable pub fitBytes : List ℕ → List ℕ → List ℕ → ℕ → ℕ → ℕ → ℕ → List ℕ → List ℕ → AfterCall
+fitBytes coords x y p kernel kind bandwidth out summary =
+    ruled (judge (callTests coords x y p kernel kind bandwidth (length out) (length summary)))
+    (λ (r : Refusal). refusedCall r out summary)
+    (fittedBytes p (numbersFit coords x y p (named (optionsOf kernel kind bandwidth))) out summary)
 
-abbrev pub chosenBytes : Choice → List ℕ → List ℕ → List ℕ → ℕ → List ℕ → List ℕ → After
-chosenBytes choice.Unknown coords x y p out summary = refused UnknownNumber out summary
-chosenBytes (choice.Known o) coords x y p out summary =
-    checked (judge (byteTests (length coords) (length x) (length y) p)) (fitParts coords x y (length coords / 16) p o out summary) out summary
+-- ---- the weight call
 
--- 01's order: 18, then 1 to 6 of the byte lengths, then what the fit says
-unfoldable pub fitBytes : List ℕ → List ℕ → List ℕ → ℕ → ℕ → ℕ → ℕ → List ℕ → List ℕ → After
-fitBytes coords x y p kernel kind bandwidth out summary = chosenBytes (optionsOf kernel kind bandwidth) coords x y p out summary
+-- a distance that is NaN or negative
+abbrev pub distanceTests : Float → List (Bool × Refusal)
+distanceTests d = (not (le zero64 d), CoordinateNotFinite) ∷ []
 
--- ---- the weight
+-- 01's order for the weight call: 18, 13 fewer than 8 bytes, 9
+unfoldable pub weightTests : ℕ → ℕ → ℕ → List (Bool × Refusal)
+weightTests kernel d out = (isUnknownKernel (kernelOf kernel), UnknownNumber) ∷ (ltb out 8, OutputTooShort) ∷ distanceTests (realOf d)
 
--- 01: the weight call gives 9 and the weight 0 for a refused d
-abbrev pub weightPlaced : Weighed → List ℕ → ℕ × List ℕ
-weightPlaced (Weight w) out = (0, placed out 0 (bytesOf (bitsOf w)))
-weightPlaced BadDistance out = (refusalNumber CoordinateNotFinite, placed out 0 (bytesOf 0))
+-- 01: the weight call gives 9 and the weight 0 for a refused d; 18 and 13 write nothing
+abbrev pub refusedWeight : Refusal → List ℕ → ℕ × List ℕ
+refusedWeight r out = (refusalNumber r, cond (eqb (refusalNumber r) 9) (placed out 0 (bytesOf 0)) out)
 
--- 01: 13 for fewer than 8 bytes, before 9
-unfoldable pub weightRoom : Weighed → List ℕ → ℕ × List ℕ
-weightRoom w out = cond (ltb (length out) 8) (refusalNumber OutputTooShort, out) (weightPlaced w out)
-
-abbrev pub weightWith : KernelChoice → ℕ → ℕ → List ℕ → ℕ × List ℕ
-weightWith kernel.Unknown d b out = (refusalNumber UnknownNumber, out)
-weightWith (kernel.Known k) d b out = weightRoom (weighed k (realOf d) (realOf b)) out
+-- a weight in the first 8 bytes
+abbrev pub givenWeight : Float → List ℕ → ℕ × List ℕ
+givenWeight w out = (0, placed out 0 (bytesOf (bitsOf w)))
 
 -- the weight of the distance of bits d at the bandwidth of bits b: the number answered, and the bytes after the call
 unfoldable pub weightBytes : ℕ → ℕ → ℕ → List ℕ → ℕ × List ℕ
-weightBytes kernel d b out = weightWith (kernelOf kernel) d b out
+weightBytes kernel d b out =
+    ruled (judge (weightTests kernel d (length out)))
+    (λ (r : Refusal). refusedWeight r out)
+    (givenWeight (weightOf (namedKernel (kernelOf kernel)) (realOf d) (realOf b)) out)
 
--- ---- what the code's parts need
+-- ---- what the code's parts give and need
+
+-- how many numbers the fit may write: n rows, or none where 13 is owed
+unfoldable pub roomOf : ℕ → ℕ → ℕ → ℕ → ℕ
+roomOf n p out summary = cond (ltb summary 24) 0 (cond (ltb out (8 * (n * (p + 4)))) 0 (n * (p + 4)))
+
+-- the fit of bytes of the right lengths, which leaves the other tests to the fit
+unfoldable pub fitParts : List ℕ → List ℕ → List ℕ → ℕ → GwrOptions → List ℕ → List ℕ → AfterCall
+fitParts coords x y p o out summary =
+    fittedBytes p (gwrFit (numbersOf coords x y p) p o (replicate (roomOf (length coords / 16) p (length out) (length summary)) zero64)) out summary
+
+-- the byte lengths that 1 to 6 let pass
+pub record ByteLengths (coords x y p : ℕ) : Type 0 where
+  pub some : 1 ≤ coords / 16
+  pub few : coords / 16 ≤ 512
+  pub narrow : p ≤ 7
+  pub places : coords ≡ 16 * (coords / 16)
+  pub rows : x ≡ 8 * (coords / 16 * p)
+  pub responses : y ≡ 8 * (coords / 16)
 
 -- room for what an answer writes: `count` of `rows` numbers, and the summary
 pub record Writable (count rows out summary : ℕ) : Type 0 where
@@ -123,11 +156,19 @@ pub record Writable (count rows out summary : ℕ) : Type 0 where
   pub whole : 24 ≤ summary
 
 abbrev pub Roomy : FitAnswer → ℕ → ℕ → ℕ → ℕ → Type 0
-Roomy (Fitted v) count rows out summary = Writable count rows out summary
-Roomy (Failed r v) count rows out summary = Writable count rows out summary
+Roomy (Done f) count rows out summary = Writable count rows out summary
 Roomy (Rejected r) count rows out summary = Unit
 
 -- a part of a buffer that the fit may write: its bytes have room in the output, and none is offered without the summary's 24
 pub record Offered (room out summary : ℕ) : Type 0 where
   pub bytes : 8 * room ≤ out
   pub whole : 1 ≤ room → 24 ≤ summary
+
+-- what `weigh_distance` said, in the first 8 bytes
+abbrev pub placedWeight : Weighed → List ℕ → ℕ × List ℕ
+placedWeight (Weight w) out = givenWeight w out
+placedWeight BadDistance out = refusedWeight CoordinateNotFinite out
+
+-- the same, or 13
+unfoldable pub weighedBytes : Weighed → List ℕ → ℕ × List ℕ
+weighedBytes w out = cond (ltb (length out) 8) (refusedWeight OutputTooShort out) (placedWeight w out)

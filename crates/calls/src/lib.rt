@@ -1,20 +1,22 @@
 // The fit and the weight call on bytes.
 ghost use mathlib.Core.Path.{_≡_};
-ghost use Prim.Native.Nat.{_+_, _*_, _≤_, _<_};
+ghost use Prim.Native.Nat.{_+_, _*_, _/_, _≤_, _<_};
 ghost use lib.ListN.{length, take};
-ghost use Rattle.plan.specs.Checks.{judge};
+ghost use Rattle.checks.specs.Judge.{judge};
 ghost use Rattle.wire.specs.Wire.{realBytes, placed};
 ghost use Rattle.calls.specs.Options.{kernelOf, kindOf, chosenOf, optionsOf};
-ghost use Rattle.calls.specs.Calls.{partTests, byteTests, roomOf, summaryBytes, answerBytes, fitted, fitParts, fitBytes, weightPlaced, weightRoom, weightBytes, Roomy, Offered};
-ghost use Rattle.gwr.specs.Fit.{fitOf};
+ghost use Rattle.calls.specs.Calls.{partTests, byteTests, roomOf, summaryBytes, answerBytes, fittedBytes, fitParts, fitBytes, placedWeight, weighedBytes, weightBytes, ByteLengths, Roomy, Offered};
+ghost use Rattle.setup.specs.Data.{dataOf};
+ghost use Rattle.gwr.specs.Fit.{gwrFit};
+use checks::Check;
 use criterion::Summary;
 use gwr::FitAnswer;
 use kernel::GwrKernel;
 use kernel::Weighed;
-use neighbours::GwrBandwidth;
-use plan::Check;
-use plan::GwrOptions;
 use refusal::Refusal;
+use setup::GwrBandwidth;
+use setup::GwrOptions;
+use sweep::Finish;
 
 // Options from their numbers, of which 18 refuses the unknown.
 pub enum Choice {
@@ -42,7 +44,7 @@ fn kernel_of(number: u64) -> KernelChoice
     KernelChoice::Unknown
 }
 
-fn chosen(kernel: GwrKernel, bandwidth: GwrBandwidth, optimize_bandwidth: bool) -> Choice
+fn chosen_of(kernel: GwrKernel, bandwidth: GwrBandwidth, optimize_bandwidth: bool) -> Choice
     ensures { λ r. ⌜ r ≡ chosenOf kernel bandwidth «optimize_bandwidth» ⌝ }
 {
     let options = GwrOptions {
@@ -54,31 +56,31 @@ fn chosen(kernel: GwrKernel, bandwidth: GwrBandwidth, optimize_bandwidth: bool) 
 }
 
 // Kind 0 is a distance and 1 a count; 2 and 3 are the same, searched.
-fn options_of(kernel: GwrKernel, kind: u64, bandwidth: u64) -> Choice
+fn kind_of(kernel: GwrKernel, kind: u64, bandwidth: u64) -> Choice
     ensures { λ r. ⌜ r ≡ kindOf kernel kind bandwidth ⌝ }
 {
     if kind == 0 {
-        return chosen(kernel, GwrBandwidth::Fixed(wire::real_of(bandwidth)), false);
+        return chosen_of(kernel, GwrBandwidth::Fixed(wire::real_of(bandwidth)), false);
     }
     if kind == 1 {
-        return chosen(kernel, GwrBandwidth::AdaptiveKnn(bandwidth as usize), false);
+        return chosen_of(kernel, GwrBandwidth::AdaptiveKnn(bandwidth as usize), false);
     }
     if kind == 2 {
-        return chosen(kernel, GwrBandwidth::Fixed(wire::real_of(bandwidth)), true);
+        return chosen_of(kernel, GwrBandwidth::Fixed(wire::real_of(bandwidth)), true);
     }
     if kind == 3 {
-        return chosen(kernel, GwrBandwidth::AdaptiveKnn(bandwidth as usize), true);
+        return chosen_of(kernel, GwrBandwidth::AdaptiveKnn(bandwidth as usize), true);
     }
     Choice::Unknown
 }
 
 // The options of the numbers of kernel and kind, and of the bandwidth's bits or count.
-pub fn read_options(kernel: u64, kind: u64, bandwidth: u64) -> Choice
+pub fn options_of(kernel: u64, kind: u64, bandwidth: u64) -> Choice
     ensures { λ r. ⌜ r ≡ optionsOf kernel kind bandwidth ⌝ }
 {
     let known = kernel_of(kernel);
     match known {
-        KernelChoice::Known(k) => options_of(k, kind, bandwidth),
+        KernelChoice::Known(k) => kind_of(k, kind, bandwidth),
         KernelChoice::Unknown => Choice::Unknown,
     }
 }
@@ -149,7 +151,7 @@ fn store_rows(rows: &[f64], count: usize, out: &mut [u8])
 }
 
 // An answer's number; rows and summary go out as bytes, unless the input was refused.
-fn write_answer(
+fn answer_bytes(
     answer: FitAnswer,
     rows: &[f64],
     count: usize,
@@ -161,21 +163,23 @@ fn write_answer(
 {
     match answer {
         FitAnswer::Rejected(r) => r.number(),
-        FitAnswer::Failed(r, v) => {
-            store_rows(rows, count, out);
-            store_summary(summary, v);
-            r.number()
-        }
-        FitAnswer::Fitted(v) => {
-            store_rows(rows, count, out);
-            store_summary(summary, v);
-            0
-        }
+        FitAnswer::Done(finish) => match finish {
+            Finish::Failed(r, v) => {
+                store_rows(rows, count, out);
+                store_summary(summary, v);
+                r.number()
+            }
+            Finish::Fitted(v) => {
+                store_rows(rows, count, out);
+                store_summary(summary, v);
+                0
+            }
+        },
     }
 }
 
 // The fit of decoded numbers, with `rows` as its output.
-fn fit_into(
+fn fitted_bytes(
     places: &[f64],
     predictors: &[f64],
     responses: &[f64],
@@ -186,27 +190,27 @@ fn fit_into(
     summary: &mut [u8],
 ) -> u32
     requires { ⌜ (p ≤ 7) × Offered (length (now rows)) (length (now out)) (length (now summary)) ⌝ }
-    ensures { λ r. ⌜ (r, (now (out .exit), now (summary .exit))) ≡ fitted p (fitOf (now (places .entry)) (now (predictors .entry)) (now (responses .entry)) p options (now (rows .entry))) (now (out .entry)) (now (summary .entry)) ⌝ }
+    ensures { λ r. ⌜ (r, (now (out .exit), now (summary .exit))) ≡ fittedBytes p (gwrFit (dataOf (now (places .entry)) (now (predictors .entry)) (now (responses .entry))) p options (now (rows .entry))) (now (out .entry)) (now (summary .entry)) ⌝ }
 {
     let fit = gwr::gwr_fit(places, predictors, responses, p, options, &mut *rows);
     let answer = fit.answer;
-    write_answer(answer, &*rows, fit.rows * (p + 4), out, summary)
+    answer_bytes(answer, &*rows, fit.rows * (p + 4), out, summary)
 }
 
 // The fit of slices of the right lengths.
-fn fit_decoded(
+fn fit_parts(
     coords: &[u8],
     x: &[u8],
     y: &[u8],
-    n: usize,
     p: usize,
     options: GwrOptions,
     out: &mut [u8],
     summary: &mut [u8],
 ) -> u32
-    requires { ⌜ (n ≤ 512) × (p ≤ 7) × (length (now coords) ≡ 16 * n) × (length (now x) ≡ 8 * (n * p)) × (length (now y) ≡ 8 * n) ⌝ }
-    ensures { λ r. ⌜ (r, (now (out .exit), now (summary .exit))) ≡ fitParts (now (coords .entry)) (now (x .entry)) (now (y .entry)) n p options (now (out .entry)) (now (summary .entry)) ⌝ }
+    requires { ⌜ ByteLengths (length (now coords)) (length (now x)) (length (now y)) p ⌝ }
+    ensures { λ r. ⌜ (r, (now (out .exit), now (summary .exit))) ≡ fitParts (now (coords .entry)) (now (x .entry)) (now (y .entry)) p options (now (out .entry)) (now (summary .entry)) ⌝ }
 {
+    let n = coords.len() / 16;
     let mut places = [0.0; 1024];
     let mut predictors = [0.0; 3584];
     let mut responses = [0.0; 512];
@@ -215,7 +219,7 @@ fn fit_decoded(
     wire::decode(x, &mut predictors, n * p);
     wire::decode(y, &mut responses, n);
     let room = room_of(n, p, out.len(), summary.len());
-    fit_into(
+    fitted_bytes(
         &places[..2 * n],
         &predictors[..n * p],
         &responses[..n],
@@ -241,32 +245,23 @@ pub fn fit_bytes(
 ) -> u32
     ensures { λ r. ⌜ (r, (now (out .exit), now (summary .exit))) ≡ fitBytes (now (coords .entry)) (now (x .entry)) (now (y .entry)) p kernel kind bandwidth (now (out .entry)) (now (summary .entry)) ⌝ }
 {
-    let choice = read_options(kernel, kind, bandwidth);
+    let choice = options_of(kernel, kind, bandwidth);
     match choice {
         Choice::Unknown => Refusal::UnknownNumber.number(),
         Choice::Known(options) => {
             let check = check_bytes(coords.len(), x.len(), y.len(), p);
             match check {
                 Check::Refused(r) => r.number(),
-                Check::Pass => fit_decoded(
-                    coords,
-                    x,
-                    y,
-                    coords.len() / 16,
-                    p as usize,
-                    options,
-                    out,
-                    summary,
-                ),
+                Check::Pass => fit_parts(coords, x, y, p as usize, options, out, summary),
             }
         }
     }
 }
 
 // The weight, or the weight 0 and refusal 9, to the first 8 bytes of out.
-fn write_weight(weighed: Weighed, out: &mut [u8]) -> u32
+fn placed_weight(weighed: Weighed, out: &mut [u8]) -> u32
     requires { ⌜ 8 ≤ length (now out) ⌝ }
-    ensures { λ r. ⌜ (r, now (out .exit)) ≡ weightPlaced weighed (now (out .entry)) ⌝ }
+    ensures { λ r. ⌜ (r, now (out .exit)) ≡ placedWeight weighed (now (out .entry)) ⌝ }
 {
     match weighed {
         Weighed::Weight(w) => {
@@ -281,13 +276,13 @@ fn write_weight(weighed: Weighed, out: &mut [u8]) -> u32
 }
 
 // The same, or refusal 13 where out has fewer than 8 bytes.
-fn place_weight(weighed: Weighed, out: &mut [u8]) -> u32
-    ensures { λ r. ⌜ (r, now (out .exit)) ≡ weightRoom weighed (now (out .entry)) ⌝ }
+fn weighed_bytes(weighed: Weighed, out: &mut [u8]) -> u32
+    ensures { λ r. ⌜ (r, now (out .exit)) ≡ weighedBytes weighed (now (out .entry)) ⌝ }
 {
     if out.len() < 8 {
         return Refusal::OutputTooShort.number();
     }
-    write_weight(weighed, out)
+    placed_weight(weighed, out)
 }
 
 // The weight call: the weight of the distance of bits d at the bandwidth of bits b, to the first 8 bytes of out.
@@ -298,10 +293,8 @@ pub fn weight_bytes(kernel: u64, d: u64, b: u64, out: &mut [u8]) -> u32
     match known {
         KernelChoice::Unknown => Refusal::UnknownNumber.number(),
         KernelChoice::Known(k) => {
-            place_weight(
-                kernel::weigh_distance(k, wire::real_of(d), wire::real_of(b)),
-                out,
-            )
+            let weighed = kernel::weigh_distance(k, wire::real_of(d), wire::real_of(b));
+            weighed_bytes(weighed, out)
         }
     }
 }

@@ -2,7 +2,7 @@
 use mathlib.Core.Path.{_≡_}
 use mathlib.Core.Bool.{not}
 use mathlib.Core.List.{List}
-use Prim.Native.Nat.{ℕ, _+_, _*_, _/_, _≤_}
+use Prim.Native.Nat.{ℕ, _+_, _*_, _≤_}
 use native.Mathlib.Omega.{arith}
 use lib.Dec.{T}
 use lib.ListN.{length, getD}
@@ -15,13 +15,17 @@ use Rattle.root.specs.Root.{root}
 use Rattle.root.proofs.Nearest.{root-of-nan}
 use Rattle.kernel.specs.Weight.{squaresOf, distanceOf}
 use Rattle.kernel.proofs.DistanceRange.{squares-nonneg}
-use Rattle.kernel.proofs.RootOrder.{root-fits}
+use Rattle.root.proofs.Order.{root-fits}
 use Rattle.kernel.proofs.Reaches.{squares-fits, distance-is}
-use Rattle.golden.specs.Kiefer.{Span, Searched}
+use Rattle.golden.specs.Kiefer.{Span, SearchInside}
 use Rattle.golden.proofs.Kiefer.{search-span, searched}
-use Rattle.plan.specs.declared.GwrOptions.{GwrOptions}
-use Rattle.plan.specs.declared.Plan.the-variants as plan
-use Rattle.plan.specs.Plan.{fartherPair, fartherFrom, greatestDistance, acceptOf}
+use Rattle.setup.specs.declared.GwrOptions.{GwrOptions}
+use Rattle.setup.specs.Data.{Data}
+use Rattle.setup.specs.Shape.{setupOf}
+use Rattle.plan.specs.declared.Plan.the-variants.{Sought}
+use Rattle.plan.specs.declared.Acceptance.the-variants.{Planned}
+use Rattle.plan.specs.Bounds.{fartherPair, fartherFrom, greatestDistance}
+use Rattle.plan.specs.Plan.{acceptOf}
 use Rattle.plan.proofs.Ranges.{sought-ranged}
 
 -- ---- the greatest pair distance is a number of binary64
@@ -53,11 +57,11 @@ unfolding greatestDistance fits ofBits
 greatest-held coords n = kept (fartherFrom coords n) 0 n Held (λ i s l a. from-held coords n i s (omega arith) a) zero64 (omega arith) tt
 
 -- ---- the whole
-module _ (coords x y : List Float) (p : ℕ) (o : GwrOptions) (out : List Float) (lo hi : Float) (sought : acceptOf coords x y p o (length out) ≡ plan.Sought lo hi) where
+module _ (d : Data) (p : ℕ) (o : GwrOptions) (out : List Float) (lo hi : Float) (sought : acceptOf d p o (length out) ≡ Planned (Sought lo hi)) where
   pub job-span : Span lo hi
   job-span =
-      let r = sought-ranged coords x y p o (length out) lo hi (greatest-held coords (length coords / 2)) sought in
+      let r = sought-ranged d p o (length out) (greatest-held (d .coords) (setupOf d p o .n)) sought in
       search-span lo hi (r .low-held) (r .high-held) (r .low-finite) (r .high-finite) (r .from-zero) (r .order)
 
-  pub job-searched : (s t : Float) (l : List Float) → Searched lo hi s t l
+  pub job-searched : (s t : Float) (l : List Float) → SearchInside lo hi s t l
   job-searched = searched job-span

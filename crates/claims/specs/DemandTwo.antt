@@ -1,6 +1,6 @@
 -- Demand 2: document 01 sets the steps of exp and ln and adds limits; else the Rust rules. Kernels, golden section, AICc and square root are held against their published definitions, the listed spots apart.
 -- Definitions only; proofs/DemandTwo proves it, each part by a theorem of the crate that has the definition.
--- That `gwr_fit` equals `fitOf`, in every bit of its answer and its output and on every input, is its contract; `fitOf` is 000's `gwr_fit` line by line. Here is what it says beyond that.
+-- That `gwr_fit` equals `gwrFit`, in every bit of its answer and its output and on every input, is its contract; `gwrFit` is 000's `gwr_fit` line by line. Here is what it says beyond that.
 use Prim.Native.Nat.{ℕ, _+_, _-_, _*_, _/_, _%_, _^_, _≤_, _<_}
 use mathlib.Core.Path.{_≡_}
 use mathlib.Core.Bool.{Bool, true, false, not, cond}
@@ -10,83 +10,92 @@ use lib.IntN.{pos}
 use lib.ListN.{length}
 use lib.Ieee.{Float, nan, inf, fin, binary64, lt, le, eq, fits, isNan, toBits}
 use lib.Ieee.Scale.{finite}
-use Rattle.real.specs.Reals.{zero64, one64}
+use Rattle.real.specs.Reals.{zero64, one64, leastNormal, inf64, fromCount}
 use Rattle.real.specs.Fractions.{Fraction, fraction, fractionOf, Once, OnceBy}
-use Rattle.root.specs.Root.{root, inf64}
+use Rattle.real.specs.Arithmetic.{Arithmetic, rounded, exact}
+use Rattle.root.specs.Root.{root}
 use Rattle.root.specs.Nearest.{NearestRoot}
-use Rattle.exponent_table.specs.Reduction.{nought, one, floor708, expK}
+use Rattle.exponent_table.specs.Reduction.{floor708, expK}
 use Rattle.elementary.specs.Exp.{expv}
-use Rattle.elementary.specs.Ln as ln
+use Rattle.elementary.specs.Ln.{lnv}
 use Rattle.elementary.specs.LnSteps.{LnFinite, SplitAs}
 use Rattle.refusal.specs.declared.Refusal.the-variants.{DeviationNotFinite}
 use Rattle.kernel.specs.declared.GwrKernel.{GwrKernel}
 use Rattle.kernel.specs.declared.GwrKernel.the-variants.{Gaussian, Bisquare, Exponential}
 use Rattle.kernel.specs.Weight.{unusable, weightOf, FromZeroToOne}
-use Rattle.kernel.specs.Published as kernels
-use Rattle.neighbours.specs.declared.GwrBandwidth.{GwrBandwidth}
-use Rattle.neighbours.specs.Count.{ceilRoot, LeastRoot}
-use Rattle.neighbours.specs.Walk.{nearestOf}
-use Rattle.neighbours.specs.Smallest.{allOf, metOf, Ascending, kthNearest}
-use Rattle.normal.specs.Weights.{weightsAt}
-use Rattle.local.specs.Estimate as estimate
-use Rattle.local.specs.NormalEquations.{ExactFit, Solves}
+use Rattle.kernel.specs.Published.{kernelFormula, exactWeight, powerOfE, plainWeight}
+use Rattle.checks.specs.Judge.{NoneOf}
+use Rattle.setup.specs.declared.GwrBandwidth.{GwrBandwidth}
+use Rattle.setup.specs.declared.Setup.{Setup}
+use Rattle.setup.specs.Data.{Data}
+use Rattle.setup.specs.Shape.{setupOf}
+use Rattle.counts.specs.Count.{ceilRoot, LeastRoot}
+use Rattle.neighbours.specs.declared.Own.the-variants.{At}
+use Rattle.neighbours.specs.Walk.{between, nearestOf}
+use Rattle.neighbours.specs.Smallest.{allDistances, metDistances, Ascending, kthNearest}
+use Rattle.weights.specs.Weights.{weightsAt}
+use Rattle.estimate.specs.Estimate.{fitCoefficients}
+use Rattle.estimate.specs.NormalEquations.{ExactFit, Solves}
 use Rattle.criterion.specs.declared.Criterion.the-variants as criterion
-use Rattle.criterion.specs.Aicc.{realOf, leastNormal, freedom, exhausted, correctedAic}
-use Rattle.criterion.specs.Published as aicc
+use Rattle.criterion.specs.Published.{deviation, freedom, aiccPublished, aiccFormula}
+use Rattle.criterion.specs.Aicc.{pi64, exhausted, correctedAic}
 use Rattle.golden.specs.declared.Bracket.{Bracket}
 use Rattle.golden.specs.Golden.{invPhi, invPhi2, G, G2, startOf, goesLeft, narrowOf}
 use Rattle.golden.specs.Points as points
-use Rattle.golden.specs.Kiefer.{Span, Inside, Framed, Ordered, KieferRound, Narrowed, triedOf, playedOf, Searched, Valley, ScoredBy, Follows}
-use Rattle.plan.specs.declared.GwrOptions.{GwrOptions}
+use Rattle.golden.specs.Kiefer.{Span, Inside, Framed, KieferRound, Narrowed, triedOf, playedOf, SearchInside, Valley, ScoredBy, Follows}
+use Rattle.setup.specs.declared.GwrOptions.{GwrOptions}
 use Rattle.plan.specs.declared.Plan.the-variants as plan
-use Rattle.plan.specs.Plan.{acceptOf, bandwidthAt}
-use Rattle.gwr.specs.Search.{trialOf, goldenSectionMin}
-use Rattle.gwr.specs.Fit.{finalOf, jobData, fitOf}
-use Rattle.claims.specs.Conditions.{None, inputConditions}
+use Rattle.plan.specs.declared.Acceptance.the-variants as acceptance
+use Rattle.plan.specs.Bounds.{bandwidthAt}
+use Rattle.plan.specs.Checks.{fitTests}
+use Rattle.plan.specs.Plan.{acceptOf}
+use Rattle.search.specs.Trial.{trialOf}
+use Rattle.search.specs.Literal.{goldenSectionMin}
+use Rattle.gwr.specs.Fit.{finalOf, gwrFit}
 
 pub record DemandTwo : Type 1 where
   -- ---- golden section: 000's `golden_section_min` as it is written
 
   -- an unsearched fit, and a search with no trial, are a final fit at once
-  pub settled : (coords x y : List Float) (p : ℕ) (o : GwrOptions) (out : List Float) (b : GwrBandwidth) → acceptOf coords x y p o (length out) ≡ plan.Settled b
-      → fitOf coords x y p o out ≡ finalOf (jobData coords x y p) o b 0 out
+  pub settled : (d : Data) (p : ℕ) (o : GwrOptions) (out : List Float) (b : GwrBandwidth) → acceptOf d p o (length out) ≡ acceptance.Planned (plan.Settled b)
+      → gwrFit d p o out ≡ finalOf (setupOf d p o) d b 0 out
   -- a searched one is a final fit at the point that `golden_section_min` finds, after its solves
-  pub searched : (coords x y : List Float) (p : ℕ) (o : GwrOptions) (out : List Float) (lo hi : Float) → acceptOf coords x y p o (length out) ≡ plan.Sought lo hi →
-      let d = jobData coords x y p in
-      let m = goldenSectionMin (trialOf d o) lo hi in
-      fitOf coords x y p o out ≡ finalOf d o (bandwidthAt (o .bandwidth) (m .0) (d .n) (d .p)) (m .1) out
+  pub searched : (d : Data) (p : ℕ) (o : GwrOptions) (out : List Float) (lo hi : Float) → acceptOf d p o (length out) ≡ acceptance.Planned (plan.Sought lo hi) →
+      let u = setupOf d p o in
+      let m = goldenSectionMin (trialOf u d) lo hi in
+      gwrFit d p o out ≡ finalOf u d (bandwidthAt u (m .0)) (m .1) out
   -- the constants of the code are the root of 5, less 1, over 2, and its square, as 000 works them out
   pub ratio : (G ≡ invPhi) × (G2 ≡ invPhi2)
   -- Kiefer 1953: a round keeps the part about the lower score, reuses one inner point and its score, and makes one new trial
   pub round-kiefer : (g : Bracket) (s : Float) → KieferRound g (narrowOf g s) s
   -- the points stand at the golden section. 000's are the formulas with each operation rounded once
-  pub first-points : (lo hi : Float) → points.sectionOf (startOf lo hi) ≡ points.sectionAt points.rounded lo hi
-  pub next-points : (g : Bracket) (s : Float) → points.sectionOf (narrowOf g s) ≡ points.nextSection points.rounded (goesLeft g) (points.sectionOf g)
+  pub first-points : (lo hi : Float) → points.sectionOf (startOf lo hi) ≡ points.sectionAt rounded G lo hi
+  pub next-points : (g : Bracket) (s : Float) → points.sectionOf (narrowOf g s) ≡ points.nextSection rounded G (goesLeft g) (points.sectionOf g)
   -- where nothing is rounded and g² = 1 - g, they are Kiefer's: a + g²·h is b - g·h, and after a round on either side the reused point stands where the part kept wants it
-  pub golden-section : {R : Type 0} (K : points.CommutativeRing R) (g : R) → K .times g g ≡ points.exact K g .minus (K .one) g → (a b : R) → points.GoldenSection K g a b
+  pub golden-section : {R : Type 0} (A : Arithmetic R) → points.CommutativeRing A → (g : R) → A .times g g ≡ A .minus (A .one) g → (a b : R) → points.GoldenSection A g a b
   -- of any other ratio, what e = g² + g - 1 leaves of that
-  pub residues : {R : Type 0} (K : points.CommutativeRing R) (g a b : R) → points.Residues K g a b
+  pub residues : {R : Type 0} (A : Arithmetic R) → points.CommutativeRing A → (g a b : R) → points.Residues A g (A .minus (A .plus (A .times g g) g) (A .one)) a b
   -- and of G that is 38494044947129 / 2^98, below 2^-52; G2 - (1 - G) is 2^-53
   pub ratio-near : points.NearGolden
   -- an accepted job's search goes between finite numbers lo ≤ hi whose difference is finite
-  pub search-span : (coords x y : List Float) (p : ℕ) (o : GwrOptions) (out : List Float) (lo hi : Float) → acceptOf coords x y p o (length out) ≡ plan.Sought lo hi → Span lo hi
+  pub search-span : (d : Data) (p : ℕ) (o : GwrOptions) (out : List Float) (lo hi : Float) → acceptOf d p o (length out) ≡ acceptance.Planned (plan.Sought lo hi) → Span lo hi
   -- of any number of its rounds, every point tried lies from lo to hi, rounding included, and the answer is a point tried
-  pub points-inside : (coords x y : List Float) (p : ℕ) (o : GwrOptions) (out : List Float) (lo hi : Float) → acceptOf coords x y p o (length out) ≡ plan.Sought lo hi
-      → (s t : Float) (l : List Float) → Searched lo hi s t l
+  pub points-inside : (d : Data) (p : ℕ) (o : GwrOptions) (out : List Float) (lo hi : Float) → acceptOf d p o (length out) ≡ acceptance.Planned (plan.Sought lo hi)
+      → (s t : Float) (l : List Float) → SearchInside lo hi s t l
   -- as of every search between such numbers
-  pub span-inside : {lo hi : Float} → Span lo hi → (s t : Float) (l : List Float) → Searched lo hi s t l
+  pub span-inside : {lo hi : Float} → Span lo hi → (s t : Float) (l : List Float) → SearchInside lo hi s t l
   -- of a score with one valley on the points compared, a round that begins with c < d keeps the bottom m in the bracket
   pub bottom-kept : (f : Float → Float) (g : Bracket) (s m : Float) → T (lt (g .c) (g .d)) → ScoredBy f g
       → Valley f (g .c ∷ g .d ∷ []) m → Inside (g .a) (g .b) m → Inside (narrowOf g s .a) (narrowOf g s .b) m
   -- and so do any number of them
   pub bottom-stays : (f : Float → Float) (m : Float) (g : Bracket) (l : List Float) → ScoredBy f g → Follows f g l
       → Valley f (g .c ∷ g .d ∷ triedOf g l) m → Inside (g .a) (g .b) m → Inside (playedOf g l .a) (playedOf g l .b) m
-  -- a bracket lies within the one before while its inner points are in order; the listed spot: rounding can put them out of order
-  pub round-narrows : (g : Bracket) (s : Float) → Framed g → Ordered g → Narrowed g (narrowOf g s)
+  -- a bracket lies within the one before while its inner points are in order, c ≤ d as in the published method; the listed spot: rounding can put them out of order
+  pub round-narrows : (g : Bracket) (s : Float) → Framed g → T (le (g .c) (g .d)) → Narrowed g (narrowOf g s)
   -- ---- the local solve: Fotheringham, Brunsdon and Charlton 2002
 
   -- where nothing was rounded, the coefficients solve (XᵀWX) β = XᵀWy
-  pub normal-equations : (x y w : List Float) (n p : ℕ) → ExactFit x y w n p → Solves x y w n p (estimate.fitOf x y w n p .0 .beta)
+  pub normal-equations : (u : Setup) (d : Data) (w : List Float) → ExactFit u d w → Solves u d w (fitCoefficients u d w .0 .beta)
   -- ---- the square root: IEEE 754, nearest, ties to the even last bit
 
   -- of a positive finite number every other binary64 lies farther from the exact root, so that no tie occurs
@@ -97,73 +106,68 @@ pub record DemandTwo : Type 1 where
   -- ---- exp and ln: 01's steps
 
   -- exp of v ≤ 0 is finite and lies from 0 to 1; 2^-K stays normal
-  pub exp-range : (v : Float) → T (not (isNan v)) → T (le v nought) → T (finite (expv v)) × T (le nought (expv v)) × T (le (expv v) one)
-  pub exp-halvings : (v : Float) → T (le floor708 v) → T (le v nought) → expK v ≤ 1021
+  pub exp-range : (v : Float) → T (not (isNan v)) → T (le v zero64) → T (finite (expv v)) × T (le zero64 (expv v)) × T (le (expv v) one64)
+  pub exp-halvings : (v : Float) → T (le floor708 v) → T (le v zero64) → expK v ≤ 1021
   -- of a positive normal number every step of ln is finite, and v is m·2^e exactly
-  pub ln-finite : (v : Float) → T (fits binary64 v) → T (le ln.leastNormal v) → T (lt v (inf false)) → LnFinite v
-  pub ln-split : (v : Float) → T (fits binary64 v) → T (le ln.leastNormal v) → T (lt v (inf false))
+  pub ln-finite : (v : Float) → T (fits binary64 v) → T (le leastNormal v) → T (lt v inf64) → LnFinite v
+  pub ln-split : (v : Float) → T (fits binary64 v) → T (le leastNormal v) → T (lt v inf64)
       → SplitAs v (2 ^ 52 + toBits binary64 v % 2 ^ 52) (toBits binary64 v / 2 ^ 52)
   -- ---- kernels: Fotheringham, Brunsdon and Charlton 2002
 
   -- the published formula with each operation rounded once
-  pub kernel-formula : (k : GwrKernel) (d b : Float) → T (not (unusable b)) → weightOf k d b ≡ kernels.formula kernels.rounded k d b
+  pub kernel-formula : (k : GwrKernel) (d b : Float) → T (not (unusable b)) → weightOf k d b ≡ kernelFormula rounded expv (λ x. x) k d b
   -- the listed spot: b not finite or b ≤ 0
   pub kernel-spot : (k : GwrKernel) (d b : Float) → T (unusable b) → weightOf k d b ≡ cond (eq d zero64) one64 zero64
   -- on fractions, where nothing is rounded, the formulas are exp(-(d/b)²/2), (1 - (d/b)²)² below b and 0 from there on, exp(-d/b); here d/b is (a/c)/(p/q)
-  pub gaussian : (a c p q : ℕ) → kernels.formula kernels.exact Gaussian (fraction false a c) (fraction false p q)
-      ≡ kernels.power (fraction true (a * q * (a * q)) (2 * (p * c * (p * c))))
+  pub gaussian : (a c p q : ℕ) → exactWeight Gaussian (fraction false a c) (fraction false p q)
+      ≡ powerOfE (fraction true (a * q * (a * q)) (2 * (p * c * (p * c))))
   pub bisquare : (a c p q : ℕ) → a * q < p * c →
       let u = p * c * (p * c) - a * q * (a * q) in
-      kernels.formula kernels.exact Bisquare (fraction false a c) (fraction false p q) ≡ kernels.plain (fraction false (u * u) (p * c * (p * c) * (p * c * (p * c))))
-  pub bisquare-outside : (a c p q : ℕ) → p * c ≤ a * q → kernels.formula kernels.exact Bisquare (fraction false a c) (fraction false p q) ≡ kernels.plain (fraction false 0 1)
-  pub exponential : (a c p q : ℕ) → kernels.formula kernels.exact Exponential (fraction false a c) (fraction false p q) ≡ kernels.power (fraction true (a * q) (p * c))
+      exactWeight Bisquare (fraction false a c) (fraction false p q) ≡ plainWeight (fraction false (u * u) (p * c * (p * c) * (p * c * (p * c))))
+  pub bisquare-outside : (a c p q : ℕ) → p * c ≤ a * q → exactWeight Bisquare (fraction false a c) (fraction false p q) ≡ plainWeight (fraction false 0 1)
+  pub exponential : (a c p q : ℕ) → exactWeight Exponential (fraction false a c) (fraction false p q) ≡ powerOfE (fraction true (a * q) (p * c))
   -- and an operation is that of fractions, rounded once to the nearest; sign, comparison and constants are those of fractions
-  pub minus-once : Once (kernels.rounded .minus) (kernels.exact .minus)
-  pub times-once : Once (kernels.rounded .times) (kernels.exact .times)
-  pub over-once : OnceBy (kernels.rounded .over) (kernels.exact .over)
-  pub opposite-exact : (x : Float) → T (finite x) → fractionOf (kernels.rounded .opposite x) ≡ kernels.exact .opposite (fractionOf x)
-  pub less-exact : (x y : Float) → T (finite x) → T (finite y) → kernels.rounded .less x y ≡ kernels.exact .less (fractionOf x) (fractionOf y)
-  pub constants-exact : (fractionOf (kernels.rounded .nought) ≡ kernels.exact .nought) × (fractionOf (kernels.rounded .half) ≡ kernels.exact .half) × (fractionOf (kernels.rounded .one) ≡ kernels.exact .one)
+  pub plus-once : Once (rounded .plus) (exact .plus)
+  pub minus-once : Once (rounded .minus) (exact .minus)
+  pub times-once : Once (rounded .times) (exact .times)
+  pub over-once : OnceBy (rounded .over) (exact .over)
+  pub opposite-exact : (x : Float) → T (finite x) → fractionOf (rounded .opposite x) ≡ exact .opposite (fractionOf x)
+  pub less-exact : (x y : Float) → T (finite x) → T (finite y) → rounded .less x y ≡ exact .less (fractionOf x) (fractionOf y)
+  pub constants-exact :
+      (fractionOf (rounded .nought) ≡ exact .nought) × (fractionOf (rounded .half) ≡ exact .half) × (fractionOf (rounded .one) ≡ exact .one) × (fractionOf (rounded .two) ≡ exact .two)
   -- every weight of a non-negative distance lies from 0 to 1, and a location's own weight is 1
   pub weight-range : (k : GwrKernel) (d b : Float) → T (le zero64 d) → FromZeroToOne (weightOf k d b)
   pub weight-own : (k : GwrKernel) (s : Bool) (b : Float) → weightOf k (fin s 0 (pos 0)) b ≡ one64
   -- 000's refusal of a weight sum not above zero never occurs: it is finite and above 0 at every location of every accepted job, whichever bandwidth
-  pub weight-sum : (coords x y : List Float) (p : ℕ) (o : GwrOptions) (out : ℕ) → None (inputConditions coords x y p o out) → (i : ℕ) → i < length coords / 2 → (k : GwrKernel) (b : Float) →
-      let sum = weightsAt (jobData coords x y p) k i b .1 in
+  pub weight-sum : (d : Data) (p : ℕ) (o : GwrOptions) (out : ℕ) → NoneOf (fitTests d p o out) → (i : ℕ) → i < setupOf d p o .n → (b : Float) →
+      let sum = weightsAt (setupOf d p o) d i b .1 in
       T (finite sum) × T (lt zero64 sum)
   -- ---- neighbours
 
-  -- a location's bandwidth is its k-th smallest distance to the others (`allOf`), if that is zero the greatest of them and EPS
-  pub kth-smallest : (coords x y : List Float) (p : ℕ) (o : GwrOptions) (out : ℕ) → None (inputConditions coords x y p o out) → (i k : ℕ) → i < length coords / 2 → 1 ≤ k
-      → nearestOf coords (length coords / 2) i k ≡ kthNearest coords (length coords / 2) i k
-  -- `allOf` has every one of them, in ascending order
-  pub all-distances : (coords : List Float) (i m : ℕ) → List·Permᴰ (allOf coords i m) (metOf coords i m)
-  pub ascending : (coords x y : List Float) (p : ℕ) (o : GwrOptions) (out : ℕ) → None (inputConditions coords x y p o out) → (i : ℕ) → i < length coords / 2
-      → Ascending (allOf coords i (length coords / 2))
+  -- a location's bandwidth is its k-th smallest distance to the others (`allDistances`), if that is zero the greatest of them and EPS
+  pub kth-smallest : (d : Data) (p : ℕ) (o : GwrOptions) (out : ℕ) → NoneOf (fitTests d p o out) → (i k : ℕ) →
+      let n = setupOf d p o .n in
+      i < n → 1 ≤ k → nearestOf (d .coords) n i k ≡ kthNearest (At i) (between (d .coords) i) n k
+  -- `allDistances` has every one of them, in ascending order
+  pub all-distances : (coords : List Float) (i m : ℕ) → List·Permᴰ (allDistances (At i) (between coords i) m) (metDistances (At i) (between coords i) m)
+  pub ascending : (d : Data) (p : ℕ) (o : GwrOptions) (out : ℕ) → NoneOf (fitTests d p o out) → (i : ℕ) → i < setupOf d p o .n
+      → Ascending (allDistances (At i) (between (d .coords) i) (setupOf d p o .n))
   -- count 0 is the larger of 2 and the least whole number whose square is at least n
   pub least-root : (n : ℕ) → LeastRoot n (ceilRoot n)
   -- ---- AICc: Fotheringham, Brunsdon and Charlton 2002
 
-  -- the published formula in 000's order, each operation rounded once
-  pub aicc-formula : (n : ℕ) (rss trace : Float) →
-      let sigma = aicc.sigmaOf aicc.rounded (realOf n) rss in
-      T (finite sigma) → T (not (le sigma zero64)) → T (not (exhausted (freedom (realOf n) trace)))
-      → correctedAic n rss trace ≡ criterion.Value (aicc.formula aicc.rounded (realOf n) sigma trace)
-  -- 000's order is that of the publication where a product and a quotient may change places, as exact fractions do
-  pub aicc-order : (pi : Fraction) (root ln : Fraction → Fraction) (n sigma trace : Fraction)
-      → aicc.published (aicc.exact pi root ln) n sigma trace ≡ aicc.formula (aicc.exact pi root ln) n sigma trace
-  -- and an operation is that of fractions, rounded once to the nearest, and the constant 2 is exact; the root is the nearest to the exact one (`root-nearest`), ln has 01's steps
-  pub aicc-once : (pi : Fraction) (root ln : Fraction → Fraction) →
-      let exact = aicc.exact pi root ln in
-      Once (aicc.rounded .plus) (exact .plus)
-      × Once (aicc.rounded .minus) (exact .minus)
-      × Once (aicc.rounded .times) (exact .times)
-      × OnceBy (aicc.rounded .over) (exact .over)
-      × (fractionOf (aicc.rounded .two) ≡ exact .two)
+  -- the published formula in 000's order, each operation rounded once: the operations and 2 as above, the root the nearest to the exact one (`root-nearest`), ln by 01's steps
+  pub aicc-formula : (u : Setup) (rss trace : Float) →
+      let sigma = deviation rounded root (fromCount (u .n)) rss in
+      T (finite sigma) → T (not (le sigma zero64)) → T (not (exhausted (freedom rounded (fromCount (u .n)) trace)))
+      → correctedAic u rss trace ≡ criterion.Value (aiccFormula rounded pi64 lnv (fromCount (u .n)) sigma trace)
+  -- 000's order is that of the publication where a product and a quotient may change places, as exact fractions do, whatever stands for π and ln
+  pub aicc-order : (pi : Fraction) (ln : Fraction → Fraction) (n sigma trace : Fraction)
+      → aiccPublished exact pi ln n sigma trace ≡ aiccFormula exact pi ln n sigma trace
   -- the listed spots: a root of mean square of 0 is replaced by 2^-1022, |D| ≤ EPS gives +infinity, and one not finite is refusal 17
-  pub aicc-zero : (n : ℕ) (rss trace : Float) →
-      let sigma = aicc.sigmaOf aicc.rounded (realOf n) rss in
-      T (finite sigma) → T (le sigma zero64) → T (not (exhausted (freedom (realOf n) trace)))
-      → correctedAic n rss trace ≡ criterion.Value (aicc.formula aicc.rounded (realOf n) leastNormal trace)
-  pub aicc-exhausted : (n : ℕ) (rss trace : Float) → T (finite (aicc.sigmaOf aicc.rounded (realOf n) rss)) → T (exhausted (freedom (realOf n) trace)) → correctedAic n rss trace ≡ criterion.Value (inf false)
-  pub aicc-refused : (n : ℕ) (rss trace : Float) → T (not (finite (aicc.sigmaOf aicc.rounded (realOf n) rss))) → correctedAic n rss trace ≡ criterion.Refused DeviationNotFinite
+  pub aicc-zero : (u : Setup) (rss trace : Float) →
+      let sigma = deviation rounded root (fromCount (u .n)) rss in
+      T (finite sigma) → T (le sigma zero64) → T (not (exhausted (freedom rounded (fromCount (u .n)) trace)))
+      → correctedAic u rss trace ≡ criterion.Value (aiccFormula rounded pi64 lnv (fromCount (u .n)) leastNormal trace)
+  pub aicc-exhausted : (u : Setup) (rss trace : Float) → T (finite (deviation rounded root (fromCount (u .n)) rss)) → T (exhausted (freedom rounded (fromCount (u .n)) trace)) → correctedAic u rss trace ≡ criterion.Value inf64
+  pub aicc-refused : (u : Setup) (rss trace : Float) → T (not (finite (deviation rounded root (fromCount (u .n)) rss))) → correctedAic u rss trace ≡ criterion.Refused DeviationNotFinite

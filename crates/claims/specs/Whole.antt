@@ -6,42 +6,37 @@ use mathlib.Core.List.{List, [], _∷_, _++_}
 use lib.Dec.{T}
 use lib.Ieee.{Float, binary64, lt, le, ofBits}
 use Rattle.real.specs.Reals.{magnitude}
-use Rattle.neighbours.specs.declared.GwrBandwidth.{GwrBandwidth}
-use Rattle.normal.specs.Data.{Data}
-use Rattle.plan.specs.declared.GwrOptions.{GwrOptions}
+use Rattle.setup.specs.declared.GwrBandwidth.{GwrBandwidth}
+use Rattle.setup.specs.Data.{Data}
+use Rattle.setup.specs.declared.Setup.{Setup}
 use Rattle.plan.specs.declared.Plan.{Plan}
 use Rattle.plan.specs.declared.Plan.the-variants as plan
-use Rattle.plan.specs.Plan.{bandwidthAt}
-use Rattle.gwr.specs.declared.Trial.{Trial}
+use Rattle.plan.specs.Bounds.{bandwidthAt}
+use Rattle.sweep.specs.declared.Finish.the-variants as finish
+use Rattle.search.specs.declared.Trial.{Trial}
+use Rattle.search.specs.Trial.{trialOf}
+use Rattle.search.specs.Literal.{Variables, loopBody, beforeLoop, goldenSectionMin}
 use Rattle.gwr.specs.declared.FitAnswer.{FitAnswer}
 use Rattle.gwr.specs.declared.FitAnswer.the-variants as fit
-use Rattle.gwr.specs.Search.{trialOf, Variables, loopBody, beforeLoop, goldenSectionMin}
 use Rattle.job.specs.declared.Answer.{Answer}
 use Rattle.job.specs.declared.Answer.the-variants as answer
 
 -- 01: the solve count is the number of local solves in all sweeps, failing ones included; the fit's summary has it
 abbrev pub countOf : FitAnswer → ℕ
-countOf (fit.Fitted s) = s .solves
-countOf (fit.Failed r s) = s .solves
+countOf (fit.Done (finish.Fitted s)) = s .solves
+countOf (fit.Done (finish.Failed r s)) = s .solves
 countOf (fit.Rejected r) = 0
 
 -- 01: a turn answers ended with the summary and any refusal: those of the fit
 abbrev pub endedWith : FitAnswer → Answer
-endedWith (fit.Fitted s) = answer.Ended s
-endedWith (fit.Failed r s) = answer.Failed r s
+endedWith (fit.Done f) = answer.Ended f
 endedWith (fit.Rejected r) = answer.Refused r
 
 -- 01: the final fit is at the point `golden_section_min` finds, at lo (L) if a search has no trial, and unsearched at the given distance or count; the plan has all but the first
-abbrev pub finalBandwidth : Plan → Data → GwrOptions → GwrBandwidth
-finalBandwidth (plan.Refused r) d o = o .bandwidth
-finalBandwidth (plan.Settled b) d o = b
-finalBandwidth (plan.Sought lo hi) d o = bandwidthAt (o .bandwidth) (goldenSectionMin (trialOf d o) lo hi .0) (d .n) (d .p)
-
--- the solves made before the final fit
-abbrev pub searchSolves : Plan → Data → GwrOptions → ℕ
-searchSolves (plan.Refused r) d o = 0
-searchSolves (plan.Settled b) d o = 0
-searchSolves (plan.Sought lo hi) d o = goldenSectionMin (trialOf d o) lo hi .1
+-- its bandwidth, and the solves made before it
+abbrev pub toFinal : Plan → Setup → Data → GwrBandwidth × ℕ
+toFinal (plan.Settled b) u d = (b, 0)
+toFinal (plan.Sought lo hi) u d = let m = goldenSectionMin (trialOf u d) lo hi in (bandwidthAt u (m .0), m .1)
 
 -- ---- the trials of a search, in their order
 
@@ -70,10 +65,9 @@ goldenTrials f lo hi =
     record { point = v .c; score = v .fc } ∷ record { point = v .d; score = v .fd } ∷ loopTrials f 100 v
 
 -- every trial that the fit makes
-abbrev pub trialsOf : Plan → Data → GwrOptions → List Scored
-trialsOf (plan.Refused r) d o = []
-trialsOf (plan.Settled b) d o = []
-trialsOf (plan.Sought lo hi) d o = goldenTrials (trialOf d o) lo hi
+abbrev pub trialsOf : Plan → Setup → Data → List Scored
+trialsOf (plan.Settled b) u d = []
+trialsOf (plan.Sought lo hi) u d = goldenTrials (trialOf u d) lo hi
 
 -- P of each
 abbrev pub All : {A : Type 0} → (A → Type 0) → List A → Type 0

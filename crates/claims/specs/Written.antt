@@ -5,26 +5,18 @@ use lib.Dec.{eqb}
 use Rattle.refusal.specs.Numbers.{refusalNumber}
 use Rattle.criterion.specs.declared.Criterion.{Criterion}
 use Rattle.criterion.specs.declared.Criterion.the-variants as criterion
-use Rattle.job.specs.declared.Stage.{Stage}
-use Rattle.job.specs.declared.Stage.the-variants.{First, Second, Round, Final, Ended}
-use Rattle.job.specs.declared.Job.{Job}
+use Rattle.stepping.specs.declared.Job.{Job}
+use Rattle.stepping.specs.Step.{byStage}
 
 -- 01: a job that ends keeps the location of its last solve. With a value or 17 that was n - 1, and its row was written; with 14, 15 or 16 its row was not
 abbrev pub rowsEnded : Criterion → ℕ → ℕ → ℕ
 rowsEnded (criterion.Value v) n i = n
 rowsEnded (criterion.Refused r) n i = cond (eqb (refusalNumber r) 17) n i
 
--- 01: only the final fit writes, row by row; at this stage and location, of n rows
-abbrev pub rowsAt : Stage → ℕ → ℕ → ℕ
-rowsAt First n i = 0
-rowsAt Second n i = 0
-rowsAt Round n i = 0
-rowsAt Final n i = i
-rowsAt (Ended c) n i = rowsEnded c n i
-
--- how many rows, and how many numbers at the front of the output
+-- 01: only the final fit writes, row by row
 abbrev pub writtenRows : Job → ℕ
-writtenRows j = rowsAt (j .stage) (j .setup .n) (j .location)
+writtenRows j = byStage 0 (j .sweep .location) (λ (c : Criterion). rowsEnded c (j .setup .n) (j .sweep .location)) (j .stage)
 
+-- how many numbers at the front of the output
 abbrev pub written : Job → ℕ
 written j = writtenRows j * (j .setup .p + 4)

@@ -5,23 +5,25 @@ use mathlib.Core.Bool.{Bool, true, false, not, _&&_, _||_}
 use Prim.Native.Nat.{ℕ}
 use native.Mathlib.Nat.{mul-assoc, mul-left-comm}
 use lib.Dec.{T}
-use lib.IntN.{negsuc}
 use lib.Ieee.{Float, nan, inf, fin, binary64, unlike, lt, le, eq, fits, isNan, ofBits, mul, div}
 use lib.Ieee.Fits.{div-fits, mul-fits}
 use lib.Ieee.Bits.{is-true, is-false}
 use lib.Ieee.Scale.{finite}
-use Rattle.real.specs.Reals.{zero64}
-use Rattle.real.specs.Fractions.{Fraction, fraction, fractionOf, product, quotient}
+use Rattle.real.specs.Reals.{zero64, two64, leastNormal, inf64, fromCount}
+use Rattle.real.specs.Fractions.{Fraction, fraction, fractionTimes, fractionOver}
+use Rattle.real.specs.Arithmetic.{Arithmetic, rounded, exact}
 use Rattle.real.proofs.SignedOrder.{le-tr, nlt→le}
-use Rattle.root.specs.Root.{root, inf64}
+use Rattle.root.specs.Root.{root}
+use Rattle.elementary.specs.Ln.{lnv}
 use Rattle.root.specs.Nearest.{NearestRoot}
 use Rattle.root.proofs.Nearest.{root-nearest, root-of-negative}
 use Rattle.elementary.specs.LnSteps.{LnFinite}
 use Rattle.elementary.proofs.LnRange.{ln-finite}
+use Rattle.setup.specs.declared.Setup.{Setup}
 use Rattle.refusal.specs.declared.Refusal.the-variants.{DeviationNotFinite}
 use Rattle.criterion.specs.declared.Criterion.the-variants.{Value, Refused}
-use Rattle.criterion.specs.Aicc.{two64, pi64, realOf, leastNormal, deviation, floored, freedom, exhausted, terms, criterionOf, correctedAic}
-use Rattle.criterion.specs.Published.{Arithmetic, sigmaOf, published, formula, rounded, exact}
+use Rattle.criterion.specs.Aicc.{pi64, floored, exhausted, criterionOf, correctedAic}
+use Rattle.criterion.specs.Published.{deviation, freedom, aiccPublished, aiccFormula}
 
 -- ---- a finite root: of a zero, which is its own root, or of a positive number
 below-infinity : (x : Float) → T (finite x) → lt x (inf false) ≡ true
@@ -74,18 +76,18 @@ root-cases x F f = go (lt x zero64) (lt zero64 x) (lt x inf64) refl refl refl
         let fx = subst (λ (z : Float). T (finite z)) own f in
         inl (zero-of-le x (nlt→le zero64 x (zero-number .0) (number x fx) (subst (λ (b : Bool). T (not b)) (sym q) tt)) p, own)
 
-no-normal : T (le (fin false 1 (negsuc 1021)) zero64) → ⊥
+no-normal : T (le leastNormal zero64) → ⊥
 unfolding le ofBits
 no-normal t = t
 
 -- ---- the order of the last term
 
 -- where a product and a quotient may change places, as in the real numbers, 000's order is the published one
-pub published-order : {R : Type 0} (A : Arithmetic R) → ((x y z : R) → A .times x (A .over y z) ≡ A .over (A .times x y) z) → (n sigma trace : R) → published A n sigma trace ≡ formula A n sigma trace
-unfolding published formula
-published-order A law n sigma trace = ap (A .plus (A .plus (A .times (A .times (A .two) n) (A .ln sigma)) (A .times n (A .ln (A .times (A .two) (A .pi)))))) (law n (A .plus n trace) (A .minus (A .minus n (A .two)) trace))
+pub published-order : {R : Type 0} (A : Arithmetic R) → ((x y z : R) → A .times x (A .over y z) ≡ A .over (A .times x y) z) → (pi : R) (ln : R → R) (n sigma trace : R) → aiccPublished A pi ln n sigma trace ≡ aiccFormula A pi ln n sigma trace
+unfolding aiccPublished aiccFormula
+published-order A law pi ln n sigma trace = ap (A .plus (A .plus (A .times (A .times (A .two) n) (ln sigma)) (A .times n (ln (A .times (A .two) pi))))) (law n (A .plus n trace) (freedom A n trace))
 
--- so it is with exact fractions, whatever stands for π, the root and ln
+-- so it is with exact fractions, whatever stands for π and ln
 unlike-assoc : (s t u : Bool) → unlike s (unlike t u) ≡ unlike (unlike s t) u
 unlike-assoc true true true = refl
 unlike-assoc true true false = refl
@@ -96,16 +98,11 @@ unlike-assoc false true false = refl
 unlike-assoc false false true = refl
 unlike-assoc false false false = refl
 
-change-places : (x y z : Fraction) → product x (quotient y z) ≡ quotient (product x y) z
+change-places : (x y z : Fraction) → fractionTimes x (fractionOver y z) ≡ fractionOver (fractionTimes x y) z
 change-places (fraction s a c) (fraction t b d) (fraction u e f) = rw (unlike-assoc s t u, ← mul-assoc a b f, mul-left-comm c e d)
 
-pub published-exact : (pi : Fraction) (root ln : Fraction → Fraction) (n sigma trace : Fraction) → published (exact pi root ln) n sigma trace ≡ formula (exact pi root ln) n sigma trace
-published-exact pi root ln n sigma trace = published-order (exact pi root ln) change-places n sigma trace
-
--- the constant 2 needs no rounding
-pub two-exact : fractionOf two64 ≡ fraction false 2 1
-unfolding ofBits
-two-exact = refl
+pub published-exact : (pi : Fraction) (ln : Fraction → Fraction) (n sigma trace : Fraction) → aiccPublished exact pi ln n sigma trace ≡ aiccFormula exact pi ln n sigma trace
+published-exact pi ln n sigma trace = published-order exact change-places pi ln n sigma trace
 
 -- ---- the numbers that ln is asked of
 
@@ -118,21 +115,20 @@ pub ln-two-pi : LnFinite (mul binary64 two64 pi64)
 unfolding ofBits
 ln-two-pi = ln-finite (mul binary64 two64 pi64) (mul-fits binary64 two64 pi64) (in-normal .0) (in-normal .1)
 
-module _ (n : ℕ) (rss trace : Float) where
+module _ (u : Setup) (rss trace : Float) where
+  abbrev n : ℕ
+  n = u .n
+
   -- σ̂, rounded
   abbrev sigma : Float
-  sigma = sigmaOf rounded (realOf n) rss
+  sigma = deviation rounded root (fromCount n) rss
 
-  sigma-is : deviation (realOf n) rss ≡ sigma
-  unfolding deviation sigmaOf
-  sigma-is = refl
-
-  mean-cases : T (finite sigma) → Cases (div binary64 rss (realOf n)) sigma
-  unfolding sigmaOf
-  mean-cases f = root-cases (div binary64 rss (realOf n)) (div-fits binary64 rss (realOf n)) f
+  mean-cases : T (finite sigma) → Cases (div binary64 rss (fromCount n)) sigma
+  unfolding deviation
+  mean-cases f = root-cases (div binary64 rss (fromCount n)) (div-fits binary64 rss (fromCount n)) f
 
   -- σ̂ at most 0 is that of a mean square of 0
-  pub sigma-zero : T (finite sigma) → T (le sigma zero64) → T (eq (div binary64 rss (realOf n)) zero64)
+  pub sigma-zero : T (finite sigma) → T (le sigma zero64) → T (eq (div binary64 rss (fromCount n)) zero64)
   sigma-zero f h =
       elim (mean-cases f) [
         | inl z ↦ z .0
@@ -144,30 +140,26 @@ module _ (n : ℕ) (rss trace : Float) where
   unfolding ofBits
   sigma-normal f p =
       elim (mean-cases f) [
-        | inl z ↦ absurd (subst (λ (b : Bool). T (not b)) (is-true (le sigma zero64) (subst (λ (x : Float). T (le x zero64)) (sym (z .1)) (le-of-zero (div binary64 rss (realOf n)) (z .0)))) p)
+        | inl z ↦ absurd (subst (λ (b : Bool). T (not b)) (is-true (le sigma zero64) (subst (λ (x : Float). T (le x zero64)) (sym (z .1)) (le-of-zero (div binary64 rss (fromCount n)) (z .0)))) p)
         | inr r ↦ (r .is-normal, ln-finite sigma (r .held) (r .is-normal) (subst T (sym (below-infinity sigma f)) tt))
       ]
 
-  terms-are : (s : Float) → terms (realOf n) s trace (freedom (realOf n) trace) ≡ formula rounded (realOf n) s trace
-  unfolding terms freedom formula
-  terms-are s = refl
-
   -- σ̂ finite and above 0, D beyond EPS: the published formula, each operation rounded once
-  pub aicc-rounded : T (finite sigma) → T (not (le sigma zero64)) → T (not (exhausted (freedom (realOf n) trace))) → correctedAic n rss trace ≡ Value (formula rounded (realOf n) sigma trace)
+  pub aicc-rounded : T (finite sigma) → T (not (le sigma zero64)) → T (not (exhausted (freedom rounded (fromCount n) trace))) → correctedAic u rss trace ≡ Value (aiccFormula rounded pi64 lnv (fromCount n) sigma trace)
   unfolding correctedAic criterionOf floored
-  aicc-rounded f p d = rw (sigma-is, is-true (finite sigma) f, is-false (exhausted (freedom (realOf n) trace)) d, is-false (le sigma zero64) p, terms-are sigma)
+  aicc-rounded f p d = rw (is-true (finite sigma) f, is-false (exhausted (freedom rounded (fromCount n) trace)) d, is-false (le sigma zero64) p)
 
   -- σ̂ not finite: refusal 17
-  pub aicc-refused : T (not (finite sigma)) → correctedAic n rss trace ≡ Refused DeviationNotFinite
+  pub aicc-refused : T (not (finite sigma)) → correctedAic u rss trace ≡ Refused DeviationNotFinite
   unfolding correctedAic
-  aicc-refused f = rw (sigma-is, is-false (finite sigma) f)
+  aicc-refused f = rw (is-false (finite sigma) f)
 
   -- |D| ≤ EPS: plus infinity
-  pub aicc-exhausted : T (finite sigma) → T (exhausted (freedom (realOf n) trace)) → correctedAic n rss trace ≡ Value (inf false)
+  pub aicc-exhausted : T (finite sigma) → T (exhausted (freedom rounded (fromCount n) trace)) → correctedAic u rss trace ≡ Value (inf false)
   unfolding correctedAic criterionOf
-  aicc-exhausted f d = rw (sigma-is, is-true (finite sigma) f, is-true (exhausted (freedom (realOf n) trace)) d)
+  aicc-exhausted f d = rw (is-true (finite sigma) f, is-true (exhausted (freedom rounded (fromCount n) trace)) d)
 
   -- σ̂ of 0: the formula with 2^-1022 for σ̂
-  pub aicc-floored : T (finite sigma) → T (le sigma zero64) → T (not (exhausted (freedom (realOf n) trace))) → correctedAic n rss trace ≡ Value (formula rounded (realOf n) leastNormal trace)
+  pub aicc-floored : T (finite sigma) → T (le sigma zero64) → T (not (exhausted (freedom rounded (fromCount n) trace))) → correctedAic u rss trace ≡ Value (aiccFormula rounded pi64 lnv (fromCount n) leastNormal trace)
   unfolding correctedAic criterionOf floored
-  aicc-floored f p d = rw (sigma-is, is-true (finite sigma) f, is-false (exhausted (freedom (realOf n) trace)) d, is-true (le sigma zero64) p, terms-are leastNormal)
+  aicc-floored f p d = rw (is-true (finite sigma) f, is-false (exhausted (freedom rounded (fromCount n) trace)) d, is-true (le sigma zero64) p)

@@ -1,2 +1,2 @@
-pub mod Aicc
 pub mod Published
+pub mod Aicc

@@ -1,8 +1,12 @@
 // The corrected Akaike information criterion.
 ghost use mathlib.Core.Path.{_≡_};
 ghost use Prim.Native.Nat.{_<_, _^_};
-ghost use Rattle.criterion.specs.Aicc.{correctedAic, criterionOf, exhausted, floored, terms, scoreOf, failedSummary};
+ghost use Rattle.real.specs.Arithmetic.{rounded};
+ghost use Rattle.elementary.specs.Ln.{lnv};
+ghost use Rattle.criterion.specs.Published.{freedom, aiccFormula};
+ghost use Rattle.criterion.specs.Aicc.{pi64, correctedAic, criterionOf, exhausted, floored, scoreOf, failedSummary};
 use refusal::Refusal;
+use setup::Setup;
 
 pub enum Criterion {
     Value(f64),
@@ -47,11 +51,11 @@ impl Criterion {
 }
 
 // AICc of n observations from the sum of squared residuals and the trace of the hat matrix.
-pub fn corrected_aic(n: usize, rss: f64, trace: f64) -> Criterion
-    requires { ⌜ n < 2 ^ 32 ⌝ }
-    ensures { λ r. ⌜ r ≡ correctedAic n rss trace ⌝ }
+pub fn corrected_aic(u: Setup, rss: f64, trace: f64) -> Criterion
+    requires { ⌜ u .n < 2 ^ 32 ⌝ }
+    ensures { λ r. ⌜ r ≡ correctedAic u rss trace ⌝ }
 {
-    let nf = real::from_count(n);
+    let nf = real::from_count(u.n);
     let sigma = root::sqrt(rss / nf);
     if real::is_finite(sigma) {
         return Criterion::Value(criterion_of(nf, sigma, trace));
@@ -67,7 +71,7 @@ fn criterion_of(nf: f64, sigma: f64, trace: f64) -> f64
     if is_exhausted(d) {
         return real::infinity();
     }
-    terms(nf, floored(sigma), trace, d)
+    aicc_formula(nf, floored(sigma), trace, d)
 }
 
 // Whether the degrees of freedom are within 2^-52 of none. Fewer than none are not.
@@ -90,8 +94,9 @@ fn floored(sigma: f64) -> f64
 }
 
 // The criterion's three terms, added in 000's order.
-fn terms(nf: f64, sigma: f64, trace: f64, d: f64) -> f64
-    ensures { λ r. ⌜ r ≡ terms nf sigma trace d ⌝ }
+fn aicc_formula(nf: f64, sigma: f64, trace: f64, d: f64) -> f64
+    requires { ⌜ d ≡ freedom rounded nf trace ⌝ }
+    ensures { λ r. ⌜ r ≡ aiccFormula rounded pi64 lnv nf sigma trace ⌝ }
 {
     let fit = (2.0 * nf) * elementary::ln(sigma);
     let constant = nf * elementary::ln(2.0 * 3.141592653589793);

@@ -11,13 +11,15 @@ use lib.Ieee.{Float, nan, inf, fin, binary64, add, mul, neg, lt, le, eq, ofBits,
 use lib.Ieee.Fits.{and-l, and-r}
 use lib.Ieee.Bits.{is-true}
 use lib.Ieee.Scale.{finite}
-use Rattle.real.specs.Reals.{magnitude}
+use Rattle.real.specs.Reals.{zero64, one64, magnitude}
+use Rattle.real.proofs.Closed.{one, half, nought}
 use Rattle.real.proofs.SignedOrder.{le-tr, le-total, neg-anti, natural, nat-fin, add-mono, mul-smono, mul-nmono, mag-of, in-fin, above-nat, toUnsigned-mono, lt-of-not-le, nlt→le, le-self, neg-finite, zero-times}
-use Rattle.exponent_table.specs.Reduction.{INV, one, half, nought, floor708, uncut, expK, expRest, twoToMinus}
+use Rattle.exponent_table.specs.Reduction.{INV, floor708, expK, expRest, twoToMinus}
 use Rattle.elementary.specs.Exp.{expSteps, expNear, expv}
-use Rattle.elementary.proofs.StepsRange.{threeHalves, R35-nat, s-in, s-neg}
+use Rattle.elementary.specs.Ln.{threeHalves}
+use Rattle.elementary.proofs.StepsRange.{R35-nat, s-in, s-neg}
 use Rattle.exponent_table.proofs.Tests.{All}
-use Rattle.exponent_table.proofs.Table.{R35, vl, vh, kHI, kLO, tests}
+use Rattle.exponent_table.proofs.Table.{R35, uncut, vl, vh, kHI, kLO, tests}
 use Rattle.exponent_table.proofs.Sweep.{table}
 
 INV-nat : T (natural INV)
@@ -25,7 +27,7 @@ unfolding ofBits
 INV-nat = tt
 
 uncut-is : (v : Float) → uncut v ≡ add binary64 half (neg (mul binary64 v INV))
-unfolding uncut
+unfolding uncut ofBits
 uncut-is v = refl
 
 -- as v grows, 0.5 - v·INV falls
@@ -38,19 +40,19 @@ uncut-anti v w fv fw gv gw h =
 
 -- the two ends
 uncut-top : T (le half (uncut nought)) × T (finite (mul binary64 nought INV))
-unfolding uncut le mul
+unfolding uncut le mul ofBits
 uncut-top = (tt, tt)
 
 uncut-bottom : T (le (uncut floor708) (fin false 511 (pos 1))) × T (finite (mul binary64 floor708 INV)) × T (natural (uncut floor708))
-unfolding uncut le mul
+unfolding uncut le mul ofBits
 uncut-bottom = (tt, tt, tt)
 
 K-bottom : toUnsigned 64 (uncut floor708) ≡ 1021
-unfolding uncut toUnsigned
+unfolding uncut toUnsigned ofBits
 K-bottom = refl
 
 K-is : (v : Float) → expK v ≡ toUnsigned 64 (uncut v)
-unfolding expK
+unfolding expK uncut
 K-is v = refl
 
 pub r-is : (v : Float) (k : ℕ) → expRest v k ≡ add binary64 (add binary64 v (kHI k)) (kLO k)
@@ -98,8 +100,12 @@ module _ (v : Float) (low : T (le floor708 v)) (high : T (le v nought)) where
     lt-of-not-le (uncut v) (fin false 1 (pos 64)) (nat-fin (uncut v) uncut-nat) tt (λ h. no2 (le-tr (fin false 1 (pos 64)) (uncut v) (fin false 511 (pos 1)) h uncut-high)),
   )
 
-  pub K-le : expK v ≤ 1021
-  K-le = subst (λ (k : ℕ). k ≤ 1021) (sym (K-is v)) (subst (λ (k : ℕ). toUnsigned 64 (uncut v) ≤ k) K-bottom (toUnsigned-mono 64 (uncut v) (uncut floor708) uncut-nat (uncut-bottom .2) uncut-high'))
+  most-halvings : expK v ≤ 1021
+  most-halvings = subst (λ (k : ℕ). k ≤ 1021) (sym (K-is v)) (subst (λ (k : ℕ). toUnsigned 64 (uncut v) ≤ k) K-bottom (toUnsigned-mono 64 (uncut v) (uncut floor708) uncut-nat (uncut-bottom .2) uncut-high'))
+
+pub K-le : (v : Float) → T (le floor708 v) → T (le v zero64) → expK v ≤ 1021
+unfolding ofBits
+K-le v low high = most-halvings v low high
 
 nought-half : T (le nought half)
 unfolding le
@@ -120,7 +126,7 @@ r-zero = tt
 -- ---- r, with what the table says of K
 module _ (v : Float) (low : T (le floor708 v)) (high : T (le v nought)) where
   tab : (k : ℕ) → expK v ≡ k → All (tests k)
-  tab k e = table k (lt-of-le-of-lt (subst (λ (i : ℕ). i ≤ 1021) e (K-le v low high)) (lit< tt))
+  tab k e = table k (lt-of-le-of-lt (subst (λ (i : ℕ). i ≤ 1021) e (most-halvings v low high)) (lit< tt))
 
   -- v is above the lower number of its K
   pub from-below : (k : ℕ) → expK v ≡ k → T (le (vl k) v)
@@ -222,11 +228,11 @@ module _ (v : Float) (low : T (le floor708 v)) (high : T (le v nought)) where
 
 -- ---- the answer
 near-is : (v : Float) → expNear v ≡ mul binary64 (expSteps 13 (expRest v (expK v)) one) (twoToMinus (expK v))
-unfolding expNear
+unfolding expNear ofBits
 near-is v = refl
 
 pub v-is : (v : Float) → expv v ≡ cond (lt v floor708) nought (cond (le v nought) (expNear v) nan)
-unfolding expv
+unfolding expv ofBits
 v-is v = refl
 
 nought-one : T (le nought nought) × T (le nought one)
@@ -245,7 +251,8 @@ exp-range v nn h = subst (λ (x : Float). T (le nought x) × T (le x one)) (sym 
         subst (λ (x : Float). T (le nought x) × T (le x one)) (sym (near-is v)) (answer-low v (k tt) h (expK v) refl, answer-high v (k tt) h (expK v) refl)
     go false false k p = absurd p
 
-pub exp-in : (v : Float) → T (not (isNan v)) → T (le v nought) → T (finite (expv v)) × T (le nought (expv v)) × T (le (expv v) one)
+pub exp-in : (v : Float) → T (not (isNan v)) → T (le v zero64) → T (finite (expv v)) × T (le zero64 (expv v)) × T (le (expv v) one64)
+unfolding ofBits
 exp-in v n h = let i = exp-range v n h in (in-fin nought (expv v) one tt tt (i .0) (i .1), i .0, i .1)
 
 -- what is at most 0 and not below -708 is -708 or more

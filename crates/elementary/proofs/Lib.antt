@@ -3,4 +3,3 @@ pub mod ExpRange
 pub mod WholeDifference
 pub mod SplitExact
 pub mod LnRange
-pub mod Patterns

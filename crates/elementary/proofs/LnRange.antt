@@ -4,24 +4,38 @@ use mathlib.Core.Logic.{inl, inr}
 use mathlib.Core.List.{List, [], _∷_}
 use mathlib.Core.Bool.{Bool, true, false, not, _&&_, cond}
 use Prim.Native.Nat.{ℕ, zero, suc, _+_, _*_, _/_, _%_, _^_, _≤_, _<_, _-_}
-use native.Mathlib.Nat.{mul-assoc, mul-comm, mul-left-comm, mul-one, one-mul, mul-pos, mul-le-mul-left, mul-le-mul-right, le-trans, le-of-eq}
+use native.Mathlib.Nat.{mul-assoc, mul-comm, mul-left-comm, mul-pos, mul-le-mul-left, mul-le-mul-right, le-trans, le-of-eq}
 use native.Mathlib.Omega.{arith}
 use borrow.Author.Tests.{lt-leb, le-leb}
-use lib.Dec.{T, leb, ltb, ltb→lt, lit<}
+use lib.Dec.{T, lit<}
 use lib.IntN.{ℤ, pos, negsuc}
 use lib.Ieee.{Float, nan, inf, fin, binary64, add, sub, mul, div, neg, lt, le, ofInt, ofBits, toBits, fits, round, minus, isNan}
 use lib.Ieee.Fits.{and-l, and-r}
-use lib.Ieee.Bits.{is-true, is-false}
+use lib.Ieee.Bits.{is-true}
 use lib.Ieee.Order.{le-of-values, round-mono}
 use lib.Ieee.Scale.{finite}
 use lib.Ieee.Positive.{num, den, den-pos, positive, own-value, value-pos, between}
-use Rattle.real.specs.Reals.{magnitude}
+use Rattle.real.specs.Reals.{magnitude, leastNormal}
+use Rattle.real.proofs.Closed.{one, half, nought, two}
 use Rattle.real.proofs.SignedOrder.{sgn, le→sle, le-tr, le-total, natural, nat-fin, nat-sgn, sgn-natural, nat-above, add-mono, sub-opened, neg-finite, mul-by, mul-smono, mul-nmono, mul-mag, div-by, div-smono, div-mag, mag-in, mag-of, mag-finite, mag-self, mag-nat, in-fin, above-nat, le-self, round-mag, round-sgn, square-mag, here-or-on}
-use Rattle.exponent_table.specs.Reduction.{HI, LO, one, half, nought}
+use Rattle.exponent_table.specs.Reduction.{HI, LO}
 use Rattle.exponent_table.proofs.Tests.{allb, All, all→}
-use Rattle.elementary.specs.Ln.{two, threeHalves, leastNormal, mantissa, exponent, lnStep, lnSteps, lnSeries, lnAnswer, lnSplit, lnParts, lnv}
-use Rattle.elementary.specs.LnSteps.{SplitAs, StepsFinite, quarter, sixteenth, top, most, zOf, wOf, SplitFinite, LnFinite}
+use Rattle.elementary.specs.Ln.{threeHalves, mantissa, exponent, lnStep, lnSteps, lnSeries, zOf, wOf, lnSplit, lnParts, lnv}
+use Rattle.elementary.specs.LnSteps.{SplitAs, StepsFinite, SplitFinite, LnFinite}
 use Rattle.elementary.proofs.SplitExact.{split-exact}
+
+-- ---- the bounds: 1/4, 1/16, 33/32 and 711
+abbrev quarter : Float
+quarter = fin false 1 (negsuc 1)
+
+abbrev sixteenth : Float
+sixteenth = fin false 1 (negsuc 3)
+
+abbrev seriesMost : Float
+seriesMost = fin false 33 (negsuc 4)
+
+abbrev lnMost : Float
+lnMost = fin false 711 (pos 0)
 
 -- ---- laws that SignedOrder lacks
 num-of : (x : Float) → T (positive x) → 0 < num x
@@ -98,7 +112,7 @@ abbrev stepTests : Float → ℕ → List Bool
 stepTests hi j = natural (term j) ∷ natural (mul binary64 sixteenth hi) ∷ positive (floor-of j) ∷ natural (roof hi j) ∷ []
 
 step-is : (w s : Float) (j : ℕ) → lnStep w s j ≡ add binary64 (term j) (mul binary64 w s)
-unfolding lnStep
+unfolding lnStep ofBits
 step-is w s j = refl
 
 module _ (w : Float) (nw : T (natural w)) (hw : T (le w sixteenth)) where
@@ -123,18 +137,18 @@ module _ (w : Float) (nw : T (natural w)) (hw : T (le w sixteenth)) where
     step-nat = above-nat (floor-of j) (lnStep w s j) (roof hi j) (ok .1 .1 .0) (nat-fin (roof hi j) (ok .1 .1 .1 .0)) step-low step-high
 
   abbrev stepsOk : ℕ → Float → Float → Bool
-  stepsOk zero l hi = le one l && le hi top
+  stepsOk zero l hi = le one l && le hi seriesMost
   stepsOk (suc n) l hi = allb (stepTests hi (2 * n + 1)) && stepsOk n (floor-of (2 * n + 1)) (roof hi (2 * n + 1))
 
   record Through (n : ℕ) (s : Float) : Type 0 where
     each : StepsFinite n w s
     low : T (le one (lnSteps n w s))
-    high : T (le (lnSteps n w s) top)
+    high : T (le (lnSteps n w s) seriesMost)
 
   steps-in : (n : ℕ) (l hi s : Float) → T (stepsOk n l hi) → T (natural hi) → T (natural s) → T (le l s) → T (le s hi) → Through n s
-  unfolding lnSteps
+  unfolding lnSteps ofBits
   steps-in zero l hi s ok Nh ns hl hs =
-      record { each = nat-fin s ns; low = le-tr one l s (and-l (le one l) (le hi top) ok) hl; high = le-tr s hi top hs (and-r (le one l) (le hi top) ok) }
+      record { each = nat-fin s ns; low = le-tr one l s (and-l (le one l) (le hi seriesMost) ok) hl; high = le-tr s hi seriesMost hs (and-r (le one l) (le hi seriesMost) ok) }
   steps-in (suc n) l hi s ok Nh ns hl hs =
       let j = 2 * n + 1 in
       let more = stepsOk n (floor-of j) (roof hi j) in
@@ -150,7 +164,7 @@ module _ (w : Float) (nw : T (natural w)) (hw : T (le w sixteenth)) where
   series-in = steps-in 11 (term 23) (term 23) (term 23) (eleven .0) (eleven .1) (eleven .1) (le-self (term 23) (nat-fin (term 23) (eleven .1))) (le-self (term 23) (nat-fin (term 23) (eleven .1)))
 
 series-is : (w : Float) → lnSeries w ≡ lnSteps 11 w (term 23)
-unfolding lnSeries
+unfolding lnSeries ofBits
 series-is w = refl
 
 -- ---- the answer's parts, by closed bounds
@@ -158,7 +172,7 @@ abbrev exponents : Float
 exponents = fin false 1 (pos 10)
 
 abbrev P2 : Float
-P2 = mul binary64 (mul binary64 two quarter) top
+P2 = mul binary64 (mul binary64 two quarter) seriesMost
 
 abbrev PH : Float
 PH = mul binary64 exponents HI
@@ -175,7 +189,7 @@ PA = add binary64 PH PI
 abbrev closedTests : List Bool
 closedTests =
     natural (mul binary64 two quarter) ∷ natural P2 ∷ natural HI ∷ natural LO ∷ natural PH ∷ natural PL ∷ natural PI ∷ natural PA
-    ∷ le (neg PI) (add binary64 (neg P2) (neg PL)) ∷ le (neg PA) (add binary64 (neg PH) (neg PI)) ∷ le PA most
+    ∷ le (neg PI) (add binary64 (neg P2) (neg PL)) ∷ le (neg PA) (add binary64 (neg PH) (neg PI)) ∷ le PA lnMost
     ∷ le (magnitude two) two ∷ le (magnitude HI) HI ∷ le (magnitude LO) LO ∷ natural (mul binary64 quarter quarter) ∷ le (mul binary64 quarter quarter) sixteenth ∷ []
 
 closed-test : T (allb closedTests)
@@ -186,7 +200,7 @@ closed : All closedTests
 closed = all→ closedTests closed-test
 
 split-is : (m e : Float) → lnSplit m e ≡ add binary64 (mul binary64 e HI) (add binary64 (mul binary64 (mul binary64 two (zOf m)) (lnSeries (wOf m))) (mul binary64 e LO))
-unfolding lnSplit lnAnswer
+unfolding lnSplit ofBits
 split-is m e = refl
 
 -- ---- m from lo to hi, with |m - 1| ≤ A and m + 1 ≥ L
@@ -227,6 +241,7 @@ module _ (lo hi A L : Float) (ok : All (intervalTests lo hi A L)) (m e : Float) 
   more-positive = between L (add binary64 m one) (add binary64 hi one) pos-L (ok .1 .1 .1 .1 .1 .1 .1 .1 .1 .0) more-low (add-mono binary64 m hi one one fin-m (ok .1 .0) tt tt high (le-self one tt))
 
   z-mag : T (le (magnitude (zOf m)) quarter)
+  unfolding ofBits
   z-mag =
       let a = sub binary64 m one in
       let b = add binary64 m one in
@@ -241,6 +256,7 @@ module _ (lo hi A L : Float) (ok : All (intervalTests lo hi A L)) (m e : Float) 
   z-fin = mag-finite (zOf m) quarter tt z-mag
 
   split-finite : SplitFinite m e
+  unfolding ofBits round ofInt
   split-finite =
       let c5 = closed .1 .1 .1 .1 .1 in
       let c10 = c5 .1 .1 .1 .1 .1 in
@@ -251,32 +267,27 @@ module _ (lo hi A L : Float) (ok : All (intervalTests lo hi A L)) (m e : Float) 
       let t = series-in w (q .0) w-top in
       let s = lnSeries w in
       let s1 : T (le one s) = subst (λ (x : Float). T (le one x)) (sym (series-is w)) (t .low) in
-      let s2 : T (le s top) = subst (λ (x : Float). T (le x top)) (sym (series-is w)) (t .high) in
-      let ns : T (natural s) = above-nat one s top tt tt s1 s2 in
+      let s2 : T (le s seriesMost) = subst (λ (x : Float). T (le x seriesMost)) (sym (series-is w)) (t .high) in
+      let ns : T (natural s) = above-nat one s seriesMost tt tt s1 s2 in
       let z2 = mul-mags two z two quarter tt z-fin tt tt (closed .0) (c10 .1 .0) z-mag in
-      let pr = mul-mags (mul binary64 two z) s (mul binary64 two quarter) top (z2 .0) (nat-fin s ns) (closed .0) tt (closed .1 .0) (z2 .1) (subst (λ (x : Float). T (le x top)) (sym (mag-self s ns)) s2) in
+      let pr = mul-mags (mul binary64 two z) s (mul binary64 two quarter) seriesMost (z2 .0) (nat-fin s ns) (closed .0) tt (closed .1 .0) (z2 .1) (subst (λ (x : Float). T (le x seriesMost)) (sym (mag-self s ns)) s2) in
       let eh = mul-mags e HI exponents HI fe (nat-fin HI (closed .1 .1 .0)) tt (closed .1 .1 .0) (closed .1 .1 .1 .1 .0) he (c10 .1 .1 .0) in
       let el = mul-mags e LO exponents LO fe (nat-fin LO (closed .1 .1 .1 .0)) tt (closed .1 .1 .1 .0) (c5 .0) he (c10 .1 .1 .1 .0) in
       let inn = add-mag (mul binary64 (mul binary64 two z) s) (mul binary64 e LO) P2 PL (pr .0) (el .0) (closed .1 .0) (c5 .0) (c5 .1 .0) (c5 .1 .1 .1 .0) (pr .1) (el .1) in
       let ans = add-mag (mul binary64 e HI) (add binary64 (mul binary64 (mul binary64 two z) s) (mul binary64 e LO)) PH PI (eh .0) (inn .0) (closed .1 .1 .1 .1 .0) (c5 .1 .0) (c5 .1 .1 .0) (c5 .1 .1 .1 .1 .0) (eh .1) (inn .1) in
       record {
-        less-one = fin-less;
-        and-one = nat-fin (add binary64 m one) (positive-nat (add binary64 m one) more-positive);
-        z = z-fin;
-        z-in = z-mag;
-        w = nat-fin w (q .0);
-        w-low = nat-above w (q .0);
-        w-high = w-top;
+        ends = (fin-less, nat-fin (add binary64 m one) (positive-nat (add binary64 m one) more-positive));
+        z = (z-fin, z-mag);
+        w = (nat-fin w (q .0), nat-above w (q .0), w-top);
         steps = t .each;
-        s-low = s1;
-        s-high = s2;
+        s = (s1, s2);
         twice = z2 .0;
         product = pr .0;
-        high-part = eh .0;
-        low-part = el .0;
+        parts = (eh .0, el .0);
         inner = inn .0;
-        answer = subst (λ (x : Float). T (finite x)) (sym (split-is m e)) (ans .0);
-        answer-in = subst (λ (x : Float). T (le (magnitude x) most)) (sym (split-is m e)) (le-tr (magnitude (add binary64 (mul binary64 e HI) (add binary64 (mul binary64 (mul binary64 two z) s) (mul binary64 e LO)))) PA most (ans .1) (c10 .0));
+        answer =
+            subst (λ (x : Float). T (finite x) × T (le (magnitude x) lnMost)) (sym (split-is m e))
+            (ans .0, le-tr (magnitude (add binary64 (mul binary64 e HI) (add binary64 (mul binary64 (mul binary64 two z) s) (mul binary64 e LO)))) PA lnMost (ans .1) (c10 .0));
       }
 
 -- ---- the two intervals
@@ -335,10 +346,10 @@ module _ (v : Float) (F : T (fits binary64 v)) (low : T (le leastNormal v)) (hig
   tests = all→ raisedTests raised-test
 
   m-low : T (le one (mantissa v))
-  m-low = le-of-values one (mantissa v) 1 1 (2 ^ 52 + toBits binary64 v % 2 ^ 52) (2 ^ 52) (lit< tt) (lit< tt) (refl, refl) (split .mantissa-is) (one-two _ (split .low) (split .high) .0)
+  m-low = le-of-values one (mantissa v) 1 1 (2 ^ 52 + toBits binary64 v % 2 ^ 52) (2 ^ 52) (lit< tt) (lit< tt) (refl, refl) (split .mantissa-is) (one-two _ (split .digits .0) (split .digits .1) .0)
 
   m-high : T (le (mantissa v) two)
-  m-high = le-of-values (mantissa v) two (2 ^ 52 + toBits binary64 v % 2 ^ 52) (2 ^ 52) 2 1 (lit< tt) (lit< tt) (split .mantissa-is) (refl, refl) (one-two _ (split .low) (split .high) .1)
+  m-high = le-of-values (mantissa v) two (2 ^ 52 + toBits binary64 v % 2 ^ 52) (2 ^ 52) 2 1 (lit< tt) (lit< tt) (split .mantissa-is) (refl, refl) (one-two _ (split .digits .0) (split .digits .1) .1)
 
   m-fin : T (finite (mantissa v))
   m-fin = in-fin one (mantissa v) two tt tt m-low m-high
@@ -347,7 +358,7 @@ module _ (v : Float) (F : T (fits binary64 v)) (low : T (le leastNormal v)) (hig
   e-of = ofInt binary64 (exponent v)
 
   e-in : T (le (magnitude e-of) widest)
-  e-in = subst (λ (z : ℤ). T (le (magnitude (ofInt binary64 z)) widest)) (sym (split .exponent-is)) (exponent-in (toBits binary64 v / 2 ^ 52) (split .field-low) (split .field-high))
+  e-in = subst (λ (z : ℤ). T (le (magnitude (ofInt binary64 z)) widest)) (sym (split .exponent-is)) (exponent-in (toBits binary64 v / 2 ^ 52) (split .field .0) (split .field .1))
 
   e-fin : T (finite e-of)
   e-fin = mag-finite e-of widest tt e-in
@@ -361,6 +372,7 @@ module _ (v : Float) (F : T (fits binary64 v)) (low : T (le leastNormal v)) (hig
       (mul-smono binary64 one (mantissa v) half tt m-fin tt m-low) (mul-smono binary64 (mantissa v) two half m-fin tt tt m-high)
 
   upper-split : T (le threeHalves (mantissa v)) → SplitFinite (mul binary64 (mantissa v) half) (add binary64 e-of one)
+  unfolding ofBits
   upper-split h =
       let m = mul binary64 (mantissa v) half in
       let t = tests .1 .1 .1 .1 .1 .1 .1 in
@@ -370,6 +382,7 @@ module _ (v : Float) (F : T (fits binary64 v)) (low : T (le leastNormal v)) (hig
       (e-raised .0) (le-tr (magnitude (add binary64 e-of one)) (add binary64 widest one) exponents (e-raised .1) (tests .1 .1 .0))
 
   lower-split : T (not (le threeHalves (mantissa v))) → SplitFinite (mantissa v) e-of
+  unfolding ofBits
   lower-split h =
       split-finite one threeHalves half two (all→ (intervalTests one threeHalves half two) lower-tests) (mantissa v) e-of m-low
       (elim (le-total (mantissa v) threeHalves (number (mantissa v) m-fin) (number threeHalves tt)) [
@@ -378,27 +391,25 @@ module _ (v : Float) (F : T (fits binary64 v)) (low : T (le leastNormal v)) (hig
       ])
       e-fin (le-tr (magnitude e-of) widest exponents e-in (tests .1 .1 .1 .0))
 
-  answer-of : T (finite (lnv v)) × T (le (magnitude (lnv v)) most)
-  unfolding lnv lnParts
+  answer-of : T (finite (lnv v)) × T (le (magnitude (lnv v)) lnMost)
+  unfolding lnv lnParts ofBits
   answer-of = rw (is-true (le leastNormal v) low, is-true (lt v (inf false)) high) (go (le threeHalves (mantissa v)) (λ t. upper-split t) (λ t. lower-split t))
     where
       go : (b : Bool) → (T b → SplitFinite (mul binary64 (mantissa v) half) (add binary64 e-of one)) → (T (not b) → SplitFinite (mantissa v) e-of)
-          → (let x = cond b (lnSplit (mul binary64 (mantissa v) half) (add binary64 e-of one)) (lnSplit (mantissa v) e-of) in T (finite x) × T (le (magnitude x) most))
-      go true f g = (f tt .answer, f tt .answer-in)
-      go false f g = (g tt .answer, g tt .answer-in)
+          → (let x = cond b (lnSplit (mul binary64 (mantissa v) half) (add binary64 e-of one)) (lnSplit (mantissa v) e-of) in T (finite x) × T (le (magnitude x) lnMost))
+      go true f g = f tt .answer
+      go false f g = g tt .answer
 
   -- every step of ln is finite
   pub ln-finite : LnFinite v
+  unfolding ofBits round ofInt
   ln-finite =
       record {
-        m = m-fin;
-        m-low = m-low;
-        m-high = m-high;
+        m = (m-fin, m-low, m-high);
         e = e-fin;
         halved = halved-fin;
         raised = e-raised .0;
         upper = upper-split;
         lower = lower-split;
-        answer = answer-of .0;
-        answer-in = answer-of .1;
+        answer = answer-of;
       }

@@ -15,7 +15,8 @@ use lib.Ieee.Exact.{HasValue, odd-sign}
 use lib.Ieee.Fits.{down-pos, kept-lt, and-r}
 use lib.Ieee.Bits.{ofBits-toBits}
 use Rattle.real.proofs.SignedOrder.{le→sle}
-use Rattle.elementary.specs.Ln.{leastNormal, mantissa, exponent}
+use Rattle.real.specs.Reals.{leastNormal}
+use Rattle.elementary.specs.Ln.{mantissa, exponent}
 use Rattle.elementary.specs.LnSteps.{SplitAs}
 
 -- a fraction and its equal
@@ -114,10 +115,8 @@ split-of v b is h e k =
     let t : b % 2 ^ 52 < 2 ^ 52 = omega arith in
     let r = value-of v (b / 2 ^ 52) (b % 2 ^ 52) (omega arith) t (sym (fields-of b h) ∙ e) k in
     record {
-      low = omega arith;
-      high = omega arith;
-      field-low = r .0;
-      field-high = omega arith;
+      digits = (omega arith, omega arith);
+      field = (r .0, omega arith);
       mantissa-is = subst (λ (z : ℕ). HasValue (ofBits binary64 (1023 * 2 ^ 52 + z % 2 ^ 52)) false (2 ^ 52 + b % 2 ^ 52) (2 ^ 52)) is (m-value (b % 2 ^ 52) t);
       exponent-is = ap (λ (z : ℕ). minus (z / 2 ^ 52) 1023) (sym is);
       value-is = r .1;

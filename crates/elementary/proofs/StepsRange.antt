@@ -1,21 +1,21 @@
 -- The steps of exp on an interval: with |r| at most 0.35 the 13 steps from 1 stay from 1/2 to 3/2, and with r at most 0 the last gives 1 at most. Assumes nothing.
 use mathlib.Core.Path.{_≡_, refl, sym, ap, _∙_, subst}
 use Prim.Native.Nat.{ℕ, zero, suc, _<_}
-use native.Mathlib.Omega.{arith}
 use mathlib.Core.List.{List, [], _∷_}
-use mathlib.Core.Bool.{Bool, false, _&&_}
-use lib.IntN.{pos, negsuc}
+use mathlib.Core.Bool.{Bool, _&&_}
+use lib.IntN.{pos}
 use lib.Dec.{T, ltb, ltb→lt}
-use lib.Ieee.{Float, fin, binary64, add, mul, div, neg, le, ofInt, round}
+use lib.Ieee.{Float, binary64, add, mul, div, neg, le, ofInt, ofBits, round}
 use lib.Ieee.Fits.{and-l, and-r}
 use lib.Ieee.Scale.{finite}
 use lib.Ieee.Positive.{num, positive}
 use Rattle.real.specs.Reals.{magnitude}
 use Rattle.real.proofs.SignedOrder.{le-tr, natural, nat-fin, add-mono, mul-smono, mul-nmono, div-smono, mag-in, mag-finite, mag-self, mag-nat, mul-mag, div-mag, above-nat, le-self, zero-times, zero-over, neg-finite}
-use Rattle.exponent_table.specs.Reduction.{one, half, nought}
+use Rattle.real.proofs.Closed.{one, half, nought}
 use Rattle.exponent_table.proofs.Tests.{allb, All, all→}
 use Rattle.exponent_table.proofs.Table.{R35}
 use Rattle.elementary.specs.Exp.{expStep, expSteps}
+use Rattle.elementary.specs.Ln.{threeHalves}
 
 -- ---- one Horner step on |r| ≤ R and 0 ≤ s ≤ hi
 abbrev pub quot : Float → Float → ℕ → Float
@@ -32,7 +32,7 @@ abbrev pub stepTests : Float → Float → ℕ → List Bool
 stepTests R hi j = natural (ofInt binary64 (pos j)) ∷ ltb 0 (num (ofInt binary64 (pos j))) ∷ natural (mul binary64 R hi) ∷ natural (quot R hi j) ∷ positive (lower R hi j) ∷ natural (upper R hi j) ∷ []
 
 pub step-is : (r s : Float) (j : ℕ) → expStep r s j ≡ add binary64 one (div binary64 (mul binary64 r s) (ofInt binary64 (pos j)))
-unfolding expStep
+unfolding expStep ofBits
 step-is r s j = refl
 
 one-nought : add binary64 one nought ≡ one
@@ -86,9 +86,6 @@ module _ (R hi r s : Float) (j : ℕ) (ok : All (stepTests R hi j)) (NR : T (nat
       (subst (λ (w : Float). T (le (add binary64 one q) w)) one-nought (add-mono binary64 one one q nought tt tt quot-fin tt (le-self one tt) q0))
 
 -- ---- all the steps: the answer, from s ≤ hi, lies in [1/2, 3/2]; l is a number that s is known to reach
-abbrev pub threeHalves : Float
-threeHalves = fin false 3 (negsuc 0)
-
 abbrev stepsOk : ℕ → Float → Float → Float → Bool
 stepsOk zero R l hi = le half l && le hi threeHalves
 stepsOk (suc j) R l hi = allb (stepTests R hi (suc j)) && stepsOk j R (lower R hi (suc j)) (upper R hi (suc j))

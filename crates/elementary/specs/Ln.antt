@@ -3,18 +3,12 @@ use Prim.Native.Nat.{ℕ, zero, suc, _+_, _*_, _/_, _%_, _^_}
 use mathlib.Core.Path.{_≡_, refl}
 use mathlib.Core.Bool.{false, cond, _&&_}
 use lib.IntN.{ℤ, pos, negsuc}
-use lib.Ieee.{Float, nan, inf, fin, binary64, add, sub, mul, div, lt, le, ofInt, ofBits, toBits, minus}
-use Rattle.exponent_table.specs.Reduction.{HI, LO, one, half}
-
-abbrev pub two : Float
-two = fin false 1 (pos 1)
+use lib.Ieee.{Float, nan, fin, binary64, add, sub, mul, div, lt, le, ofInt, ofBits, toBits, minus}
+use Rattle.real.specs.Reals.{half64, one64, two64, leastNormal, inf64, fromCount}
+use Rattle.exponent_table.specs.Reduction.{HI, LO}
 
 abbrev pub threeHalves : Float
 threeHalves = fin false 3 (negsuc 0)
-
--- 2^-1022
-abbrev pub leastNormal : Float
-leastNormal = ofBits binary64 0x0010_0000_0000_0000
 
 -- v = m·2^e, m from 1 up to below 2: m has v's digits under the exponent's field 1023, which is that of 1
 unfoldable pub mantissa : Float → Float
@@ -29,7 +23,7 @@ exponent v = minus (toBits binary64 v / 2 ^ 52) 1023
 -- s becomes 1/j + w·s
 unfoldable pub lnStep : Float → Float → ℕ → Float
 unfolding add mul div ofInt
-lnStep w s j = add binary64 (div binary64 one (ofInt binary64 (pos j))) (mul binary64 w s)
+lnStep w s j = add binary64 (div binary64 one64 (fromCount j)) (mul binary64 w s)
 
 -- the steps for n odd j down to 1, from s: the first j is 2n - 1
 unfoldable pub lnSteps : ℕ → Float → Float → Float
@@ -40,38 +34,39 @@ lnSteps (suc n) w s = lnSteps n w (lnStep w s (2 * n + 1))
 -- s, from 1/23 by the steps for j = 21 down to 1
 unfoldable pub lnSeries : Float → Float
 unfolding lnSteps div ofInt
-lnSeries w = lnSteps 11 w (div binary64 one (ofInt binary64 (pos 23)))
+lnSeries w = lnSteps 11 w (div binary64 one64 (fromCount 23))
 
--- e·HI + ((2·z)·s + e·LO)
-unfoldable pub lnAnswer : Float → Float → Float
-unfolding lnSeries add mul ofBits
-lnAnswer z e = add binary64 (mul binary64 e HI) (add binary64 (mul binary64 (mul binary64 two z) (lnSeries (mul binary64 z z))) (mul binary64 e LO))
+-- 01's z: (m - 1)/(m + 1)
+abbrev pub zOf : Float → Float
+zOf m = div binary64 (sub binary64 m one64) (add binary64 m one64)
 
--- with z = (m - 1)/(m + 1)
+-- 01's w: z·z
+abbrev pub wOf : Float → Float
+wOf m = mul binary64 (zOf m) (zOf m)
+
+-- e·HI + ((2·z)·s + e·LO), s the series of w
 unfoldable pub lnSplit : Float → Float → Float
-unfolding lnAnswer add sub div
-lnSplit m e = lnAnswer (div binary64 (sub binary64 m one) (add binary64 m one)) e
+unfolding lnSeries add sub mul div ofBits
+lnSplit m e = add binary64 (mul binary64 e HI) (add binary64 (mul binary64 (mul binary64 two64 (zOf m)) (lnSeries (wOf m))) (mul binary64 e LO))
 
 -- where m ≥ 1.5, m is halved and e raised by one
 unfoldable pub lnParts : Float → Float → Float
 unfolding lnSplit le mul add
-lnParts m e = cond (le threeHalves m) (lnSplit (mul binary64 m half) (add binary64 e one)) (lnSplit m e)
+lnParts m e = cond (le threeHalves m) (lnSplit (mul binary64 m half64) (add binary64 e one64)) (lnSplit m e)
 
 -- for a positive normal v. For any other no steps are given, and the answer is NaN.
 unfoldable pub lnv : Float → Float
 unfolding lnParts mantissa exponent le lt ofBits ofInt
-lnv v = cond (le leastNormal v && lt v (inf false)) (lnParts (mantissa v) (ofInt binary64 (exponent v))) nan
+lnv v = cond (le leastNormal v && lt v inf64) (lnParts (mantissa v) (ofInt binary64 (exponent v))) nan
 
 -- ---- examples: ln(1), and the parts of 6 = 1.5·2^2 and of 2^-1022
 
-pub of-one : lnv one ≡ fin false 0 (pos 0)
-unfolding lnv
-of-one = refl
-
-pub parts-of-six : (mantissa (fin false 3 (pos 1)) ≡ threeHalves) × (exponent (fin false 3 (pos 1)) ≡ pos 2)
-unfolding mantissa exponent
-parts-of-six = (refl, refl)
-
-pub parts-of-least : (mantissa leastNormal ≡ one) × (exponent leastNormal ≡ negsuc 1021)
-unfolding mantissa exponent ofBits
-parts-of-least = (refl, refl)
+module _ where
+  lnExamples :
+      (lnv (fin false 1 (pos 0)) ≡ fin false 0 (pos 0))
+      × (mantissa (fin false 3 (pos 1)) ≡ threeHalves)
+      × (exponent (fin false 3 (pos 1)) ≡ pos 2)
+      × (mantissa leastNormal ≡ one64)
+      × (exponent leastNormal ≡ negsuc 1021)
+  unfolding lnv mantissa exponent ofBits
+  lnExamples = (refl, refl, refl, refl, refl)

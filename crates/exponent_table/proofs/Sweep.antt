@@ -4,9 +4,9 @@ use Prim.Native.Nat.{ℕ, _<_, zero-le}
 use lib.Dec.{T}
 use lib.Ieee.{add, mul, neg, le, round, ofInt, ofBits}
 use Rattle.real.proofs.SignedOrder.{here-or-on}
-use Rattle.exponent_table.specs.Reduction.{uncut, expK, expRest, twoToMinus}
+use Rattle.exponent_table.specs.Reduction.{expK, expRest, twoToMinus}
 use Rattle.exponent_table.proofs.Tests.{All}
-use Rattle.exponent_table.proofs.Table.{tests, sweep, sweep-sound}
+use Rattle.exponent_table.proofs.Table.{uncut, tests, sweep, sweep-sound}
 
 w0 : T (sweep 256 0)
 unfolding add mul neg le expK expRest twoToMinus uncut round ofInt ofBits

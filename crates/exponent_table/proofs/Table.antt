@@ -8,12 +8,19 @@ use mathlib.Core.List.{List, [], _∷_}
 use mathlib.Core.Bool.{Bool, true, false, _&&_}
 use lib.IntN.{pos}
 use lib.Dec.{T, ltb}
-use lib.Ieee.{Float, binary64, add, mul, neg, le, ofInt, round}
+use lib.Ieee.{Float, binary64, add, sub, mul, neg, le, ofInt, ofBits, round}
 use lib.Ieee.Fits.{and-l, and-r}
 use lib.Ieee.Scale.{finite}
 use Rattle.real.proofs.SignedOrder.{natural}
-use Rattle.exponent_table.specs.Reduction.{HI, LO, INV, one, half, nought, uncut, expK, expRest, twoToMinus}
+use Rattle.real.specs.Reals.{half64}
+use Rattle.real.proofs.Closed.{one, half, nought}
+use Rattle.exponent_table.specs.Reduction.{HI, LO, INV, expK, expRest, twoToMinus}
 use Rattle.exponent_table.proofs.Tests.{allb, All, all→}
+
+-- 0.5 - v·INV
+unfoldable pub uncut : Float → Float
+unfolding sub mul ofBits
+uncut v = sub binary64 half64 (mul binary64 v INV)
 
 -- 0.35
 abbrev pub R35 : Float

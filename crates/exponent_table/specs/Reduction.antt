@@ -1,8 +1,9 @@
 -- The first steps of exp(v): the whole number K of halvings, what is left of v, and 2^-K. Definitions only.
 use Prim.Native.Nat.{ℕ, _-_, _*_, _^_}
-use mathlib.Core.Bool.{true, false}
-use lib.IntN.{pos, negsuc}
+use mathlib.Core.Bool.{true}
+use lib.IntN.{pos}
 use lib.Ieee.{Float, fin, binary64, add, mul, sub, ofBits, ofInt, toUnsigned}
+use Rattle.real.specs.Reals.{half64, fromCount}
 
 -- ln 2 in two parts, the first with zeros at its end, and 1 / ln 2
 abbrev pub HI : Float
@@ -14,33 +15,19 @@ LO = ofBits binary64 0x3DEA39EF35793C76
 abbrev pub INV : Float
 INV = ofBits binary64 0x3FF71547652B82FE
 
-abbrev pub one : Float
-one = fin false 1 (pos 0)
-
-abbrev pub half : Float
-half = fin false 1 (negsuc 0)
-
-abbrev pub nought : Float
-nought = fin false 0 (pos 0)
-
 -- -708
 abbrev pub floor708 : Float
 floor708 = fin true 177 (pos 2)
 
--- 0.5 - v·INV
-unfoldable pub uncut : Float → Float
-unfolding sub mul ofBits
-uncut v = sub binary64 half (mul binary64 v INV)
-
--- K: its whole part
+-- K: the whole part of 0.5 - v·INV
 unfoldable pub expK : Float → ℕ
-unfolding toUnsigned uncut
-expK v = toUnsigned 64 (uncut v)
+unfolding toUnsigned sub mul ofBits
+expK v = toUnsigned 64 (sub binary64 half64 (mul binary64 v INV))
 
 -- r = (v + K·HI) + K·LO
 unfoldable pub expRest : Float → ℕ → Float
 unfolding add mul ofInt ofBits
-expRest v k = add binary64 (add binary64 v (mul binary64 (ofInt binary64 (pos k)) HI)) (mul binary64 (ofInt binary64 (pos k)) LO)
+expRest v k = add binary64 (add binary64 v (mul binary64 (fromCount k) HI)) (mul binary64 (fromCount k) LO)
 
 -- 2^-K, for K up to 1022, by its bits
 unfoldable pub twoToMinus : ℕ → Float

@@ -6,7 +6,8 @@ use lib.Ieee.{lt}
 use Rattle.real.specs.Reals.{magnitude}
 use Rattle.real.proofs.Fold.{kept}
 use Rattle.gauss.specs.declared.Pivot.{Pivot}
-use Rattle.gauss.specs.Gauss.{Matrix, cell, pivotStep, pivotOf}
+use Rattle.real.specs.Matrix.{Matrix}
+use Rattle.gauss.specs.Gauss.{cell, pivotStep, pivotOf}
 
 one-of : (n : ℕ) (t : Bool) (p q : Pivot) → p .row < n → q .row < n → cond t p q .row < n
 one-of n true p q g h = g

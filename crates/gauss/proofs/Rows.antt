@@ -8,7 +8,8 @@ use lib.Seq.{set-getD, getD-set-other}
 use lib.Dec.{eqb}
 use borrow.Author.Tests.{eqb-false}
 use Rattle.real.proofs.Fold.{Range, more}
-use Rattle.gauss.specs.Gauss.{Matrix, Row, swapRows, clearStep, clearRow}
+use Rattle.real.specs.Matrix.{Matrix, Row}
+use Rattle.gauss.specs.Gauss.{swapRows, clearStep, clearRow}
 
 -- a row exchanged with itself
 pub swap-same : (a : Matrix) (i k : ℕ) → i ≡ k → a ≡ swapRows a i k

@@ -1,23 +1,16 @@
 -- 000's `invert_matrix` on rows of floats: its elimination, step by step. Definitions, and examples at the end.
--- The matrix has the columns 0 to m - 1 in use and the rows 0 to n - 1; for `invert_matrix` m is 2 * n.
+-- The augmented matrix `aug` has the columns 0 to m - 1 in use and the rows 0 to n - 1; for `invert_matrix` m is 2 * n.
 use Prim.Native.Nat.{ℕ, _+_}
 use mathlib.Core.Path.{_≡_, refl}
 use mathlib.Core.Bool.{Bool, true, false, cond, not}
-use mathlib.Core.List.{List, [], _∷_}
+use mathlib.Core.List.{[], _∷_}
 use lib.ListN.{getD, set}
 use lib.Dec.{eqb}
-use lib.Ieee.{Float, nan, binary64, mul, sub, div, lt, eq, ofBits}
+use lib.Ieee.{Float, nan, binary64, mul, sub, div, neg, lt, eq, ofBits}
 use Rattle.real.specs.Fold.{range}
-use Rattle.real.specs.Reals.{magnitude, zero64, one64}
+use Rattle.real.specs.Reals.{zero64, one64, two64, magnitude}
+use Rattle.real.specs.Matrix.{Row, Matrix}
 use Rattle.gauss.specs.declared.Pivot.{Pivot}
-
--- a row `aug[[k, ..]]`
-abbrev pub Row : Type 0
-Row = List Float
-
--- the augmented matrix `aug`, row by row
-abbrev pub Matrix : Type 0
-Matrix = List (List Float)
 
 -- `aug[[k, j]]`
 unfoldable pub cell : Matrix → ℕ → ℕ → Float
@@ -64,8 +57,8 @@ unfoldable pub cleared : ℕ → ℕ → ℕ → Matrix → Matrix
 cleared i n m a = range (clearStep i m) 0 n a
 
 -- the 1e-12 of `if max_val < 1e-12`
-abbrev pub tiny : Float
-tiny = ofBits binary64 0x3D71_9799_812D_EA11
+abbrev pub leastPivot : Float
+leastPivot = ofBits binary64 0x3D71_9799_812D_EA11
 
 -- the swap, `let pivot = aug[[i, i]]` and the division of row i by it, and the clearing
 unfoldable pub reduced : Matrix → ℕ → ℕ → ℕ → ℕ → Matrix
@@ -76,11 +69,11 @@ reduced a i n m p =
 
 -- one turn of `for i in 0..n`: the matrix as it was where `max_val < 1e-12`
 unfoldable pub gaussStep : Matrix → ℕ → ℕ → ℕ → Matrix
-gaussStep a i n m = cond (lt (pivotOf a i n .val) tiny) a (reduced a i n m (pivotOf a i n .row))
+gaussStep a i n m = cond (lt (pivotOf a i n .val) leastPivot) a (reduced a i n m (pivotOf a i n .row))
 
 -- the same with whether no pivot was below 1e-12 so far; after one that was, nothing is done: `return Err(..)`
 unfoldable pub tryStep : ℕ → ℕ → ℕ → Bool × Matrix → Bool × Matrix
-tryStep n m i s = cond (s .0) (not (lt (pivotOf (s .1) i n .val) tiny), gaussStep (s .1) i n m) s
+tryStep n m i s = cond (s .0) (not (lt (pivotOf (s .1) i n .val) leastPivot), gaussStep (s .1) i n m) s
 
 -- `for i in 0..n`, whole: whether the matrix is not singular, and `aug` at the end
 unfoldable pub eliminated : Matrix → ℕ → ℕ → Bool × Matrix
@@ -89,42 +82,25 @@ eliminated a n m = range (tryStep n m) 0 n (true, a)
 -- ---- examples
 
 module _ where
-  two64 : Float
-  two64 = ofBits binary64 0x4000_0000_0000_0000
-
-  minusOne : Float
-  minusOne = ofBits binary64 0xBFF0_0000_0000_0000
-
-  -- 1 and -1: the first row on a tie
-  tie : pivotOf ((one64 ∷ []) ∷ ((minusOne ∷ []) ∷ [])) 0 2 .row ≡ 0
-  unfolding pivotOf pivotStep range magnitude cell lt minusOne ofBits
-  tie = refl
-
-  -- a NaN on the diagonal stays
-  nanStays : pivotOf ((nan ∷ []) ∷ ((one64 ∷ []) ∷ [])) 0 2 .row ≡ 0
-  unfolding pivotOf pivotStep range magnitude cell lt ofBits
-  nanStays = refl
-
-  -- a NaN below it is skipped
-  nanSkipped : pivotOf ((one64 ∷ []) ∷ ((nan ∷ []) ∷ ((two64 ∷ []) ∷ []))) 0 3 .row ≡ 2
-  unfolding pivotOf pivotStep range magnitude cell lt two64 ofBits
-  nanSkipped = refl
+  -- 1 and -1: the first row on a tie; a NaN on the diagonal stays, and one below it is skipped
+  pivotExamples :
+      (pivotOf ((one64 ∷ []) ∷ ((neg one64 ∷ []) ∷ [])) 0 2 .row ≡ 0)
+      × (pivotOf ((nan ∷ []) ∷ ((one64 ∷ []) ∷ [])) 0 2 .row ≡ 0)
+      × (pivotOf ((one64 ∷ []) ∷ ((nan ∷ []) ∷ ((two64 ∷ []) ∷ []))) 0 3 .row ≡ 2)
+  unfolding pivotOf pivotStep range magnitude cell lt neg ofBits
+  pivotExamples = (refl, refl, refl)
 
   -- 1e-12 itself is no singular pivot, and the number below it is
-  passes : eliminated ((tiny ∷ (one64 ∷ [])) ∷ []) 1 2 .0 ≡ true
+  singularExamples :
+      (eliminated ((leastPivot ∷ (one64 ∷ [])) ∷ []) 1 2 .0 ≡ true)
+      × (eliminated ((ofBits binary64 0x3D71_9799_812D_EA10 ∷ (one64 ∷ [])) ∷ []) 1 2 .0 ≡ false)
   unfolding eliminated tryStep pivotOf range magnitude cell lt ofBits
-  passes = refl
-
-  singular : eliminated ((ofBits binary64 0x3D71_9799_812D_EA10 ∷ (one64 ∷ [])) ∷ []) 1 2 .0 ≡ false
-  unfolding eliminated tryStep pivotOf range magnitude cell lt ofBits
-  singular = refl
+  singularExamples = (refl, refl)
 
   -- the inverse of the matrix that exchanges two rows
   exchanged :
-      eliminated
-      ((zero64 ∷ (one64 ∷ (one64 ∷ (zero64 ∷ [])))) ∷ ((one64 ∷ (zero64 ∷ (zero64 ∷ (one64 ∷ [])))) ∷ []))
-      2
-      4
-      ≡ (true, (one64 ∷ (zero64 ∷ (zero64 ∷ (one64 ∷ [])))) ∷ ((zero64 ∷ (one64 ∷ (one64 ∷ (zero64 ∷ [])))) ∷ []))
+      let top = zero64 ∷ (one64 ∷ (one64 ∷ (zero64 ∷ []))) in
+      let low = one64 ∷ (zero64 ∷ (zero64 ∷ (one64 ∷ []))) in
+      eliminated (top ∷ (low ∷ [])) 2 4 ≡ (true, low ∷ (top ∷ []))
   unfolding eliminated tryStep gaussStep reduced pivotOf pivotStep divRow divStep cleared clearStep clearRow range magnitude cell lt eq div ofBits
   exchanged = refl

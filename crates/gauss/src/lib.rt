@@ -3,7 +3,7 @@ ghost use mathlib.Core.Path.{_≡_};
 ghost use Prim.Native.Nat.{_+_, _*_, _≤_, _<_};
 ghost use mathlib.Core.Bool.{not};
 ghost use lib.Ieee.{lt};
-ghost use Rattle.gauss.specs.Gauss.{pivotStep, pivotOf, swapRows, divRow, lessRow, clearRow, cleared, reduced, gaussStep, tiny, tryStep, eliminated};
+ghost use Rattle.gauss.specs.Gauss.{pivotStep, pivotOf, swapRows, divRow, lessRow, clearRow, cleared, reduced, gaussStep, leastPivot, tryStep, eliminated};
 
 // The row and the magnitude of a pivot.
 pub struct Pivot {
@@ -110,7 +110,7 @@ fn reduce(a: &mut [[f64; 16]; 8], i: usize, n: usize, m: usize, p: usize)
 // One step with its search for the pivot: whether the pivot was large enough, and else the matrix is as it was.
 fn gauss_step(a: &mut [[f64; 16]; 8], i: usize, n: usize, m: usize) -> bool
     requires { ⌜ (i < n) × (n ≤ 8) × (m ≤ 16) ⌝ }
-    ensures { λ r. ⌜ (r ≡ not (lt (pivotOf (now (a .entry)) i n .val) tiny)) × (now (a .exit) ≡ gaussStep (now (a .entry)) i n m) ⌝ }
+    ensures { λ r. ⌜ (r ≡ not (lt (pivotOf (now (a .entry)) i n .val) leastPivot)) × (now (a .exit) ≡ gaussStep (now (a .entry)) i n m) ⌝ }
 {
     let p = find_pivot(&*a, i, n);
     let val = p.val;

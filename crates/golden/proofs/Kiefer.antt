@@ -1,7 +1,7 @@
 -- Kiefer's search as specs/Kiefer states it. Each round is one of his. Every new point lies in the part kept, rounding included. A round that begins in order narrows the bracket; no
 -- later bracket or point leaves one that holds its own points. The bottom of a valley stays in the bracket. The answer is a point tried: that it is the earliest of those with the
 -- least score is `golden-best` of crates/claims/proofs/Best.
-use mathlib.Core.Path.{_≡_, refl, _∙_, subst, subst⁻¹}
+use mathlib.Core.Path.{_≡_, refl, subst⁻¹, _∙_, subst}
 use mathlib.Core.Bool.{Bool, true, false, cond, not}
 use mathlib.Core.List.{List, [], _∷_}
 use mathlib.Core.Logic.{_⊎_, inl, inr}
@@ -17,9 +17,9 @@ use Rattle.real.specs.Fold.{turns}
 use Rattle.real.proofs.SignedOrder.{natural, nat-fin, in-fin, le-self, le-total, add-mono, mul-smono}
 use Rattle.real.proofs.Toward.{forward, width-finite, within-finite, toward-fin, toward-low, toward-high}
 use Rattle.golden.specs.declared.Bracket.{Bracket}
-use Rattle.golden.specs.Golden.{G, G2, startOf, firstOf, secondAt, secondOf, aimOf, bestAt, improvedOf, leftOf, rightOf, narrowOf}
-use Rattle.golden.specs.Kiefer.{Span, Inside, Within, Framed, Ordered, KieferRound, Narrowed, Valley, ScoredBy, Follows, opened, playedOf, triedOf, Each, Among, Steady, Narrowing, pointsOf, Searched}
-use Rattle.golden.proofs.Round.{improved-is, best-is, best-of-two}
+use Rattle.golden.specs.Golden.{G, G2, startOf, firstOf, secondOf, aimOf, improvedOf, leftOf, rightOf, narrowOf}
+use Rattle.golden.specs.Kiefer.{Span, Inside, Within, Framed, KieferRound, Narrowed, Valley, ScoredBy, Follows, opened, playedOf, triedOf, Among, Steady, Narrowing, pointsOf, SearchInside}
+use Rattle.golden.proofs.Round.{best-is, best-of-two}
 
 -- ---- the proportions: from 0 to 2 / 3
 record Share (r : Float) : Type 0 where
@@ -76,6 +76,10 @@ search-span lo hi p q n k z h =
     record { low-held = p; high-held = q; low-finite = n; high-finite = k; order = h; width = width-finite binary64 lo hi p q n k z h }
 
 -- ---- the two branches of a round
+-- the best point is x with the score v
+abbrev bestAt : Bracket → Float → Float → Bracket
+bestAt g x v = record { a = g .a; b = g .b; c = g .c; d = g .d; h = g .h; fc = g .fc; fd = g .fd; best = x; low = v }
+
 module _ (g : Bracket) where
   aim-left : lt (g .fc) (g .fd) ≡ true → aimOf g ≡ add binary64 (g .a) (mul binary64 G2 (sub binary64 (g .d) (g .a)))
   unfolding aimOf
@@ -89,19 +93,28 @@ module _ (g : Bracket) where
       → (lt (g .fc) (g .fd) ≡ true → (x v : Float) → Q (leftOf (bestAt g x v) (aimOf g) s))
       → (lt (g .fc) (g .fd) ≡ false → (x v : Float) → Q (rightOf (bestAt g x v) (aimOf g) s))
       → Q (narrowOf g s)
-  unfolding narrowOf
+  unfolding narrowOf improvedOf
   by-side s Q l r = go (lt (g .fc) (g .fd)) refl
     where
       go : (b : Bool) → lt (g .fc) (g .fd) ≡ b → Q (narrowOf g s)
-      go true e = rw (improved-is, e) (l e _ _)
-      go false e = rw (improved-is, e) (r e _ _)
+      go true e = rw e (l e _ _)
+      go false e = rw e (r e _ _)
 
 -- ---- each round is one of Kiefer's
 pub round-kiefer : (g : Bracket) (s : Float) → KieferRound g (narrowOf g s) s
 round-kiefer g s =
     by-side g s (λ k. KieferRound g k s)
-    (λ e x v. inl (record { lower = e; left = refl; right = refl; reused = refl; reused-score = refl; tried = refl; tried-score = refl; width = refl }))
-    (λ e x v. inr (record { lower = e; left = refl; right = refl; reused = refl; reused-score = refl; tried = refl; tried-score = refl; width = refl }))
+    (λ e x v. (rw e, refl)) (λ e x v. (rw e, refl))
+
+-- ---- every member
+abbrev pub Each : (Float → Type 0) → List Float → Type 0
+Each P [] = Unit
+Each P (x ∷ l) = P x × Each P l
+
+each-among : (P : Float → Type 0) (l : List Float) → Each P l → (x : Float) → Among x l → P x
+each-among P [] e x a = absurd a
+each-among P (y ∷ l) e x (inl h) = subst⁻¹ P h (e .0)
+each-among P (y ∷ l) e x (inr a) = each-among P l (e .1) x a
 
 -- ---- what lies from lo to hi stays there, whatever the scores
 module _ {lo hi : Float} (w : Span lo hi) where
@@ -109,14 +122,13 @@ module _ {lo hi : Float} (w : Span lo hi) where
   aim-inside g i = go (lt (g .fc) (g .fd)) refl
     where
       go : (b : Bool) → lt (g .fc) (g .fd) ≡ b → Inside lo hi (aimOf g)
-      go true e = rw (aim-left g e) (toward-inside w (i .a) (i .d) G2-share)
-      go false e = rw (aim-right g e) (toward-inside w (i .c) (i .b) G-share)
+      go true e = rw (aim-left g e) (toward-inside w (i .0) (i .3) G2-share)
+      go false e = rw (aim-right g e) (toward-inside w (i .2) (i .1) G-share)
 
   pub round-within : (g : Bracket) (s : Float) → Within lo hi g → Within lo hi (narrowOf g s)
   round-within g s i =
       by-side g s (Within lo hi)
-      (λ e x v. record { a = i .a; b = i .d; c = aim-inside g i; d = i .c })
-      (λ e x v. record { a = i .c; b = i .b; c = i .d; d = aim-inside g i })
+      (λ e x v. (i .0, i .3, aim-inside g i, i .2)) (λ e x v. (i .2, i .1, i .3, aim-inside g i))
 
   pub played-within : (g : Bracket) (l : List Float) → Within lo hi g → Within lo hi (playedOf g l)
   unfolding playedOf
@@ -139,7 +151,7 @@ module _ {lo hi : Float} (w : Span lo hi) where
         d = toward-inside w (low-inside w) (high-inside w) G-share;
       }
 
-  pub start-ordered : T (lt lo hi) → Ordered (startOf lo hi)
+  pub start-ordered : T (lt lo hi) → T (le (startOf lo hi .c) (startOf lo hi .d))
   unfolding startOf
   start-ordered h =
       let n = forward binary64 lo hi (w .low-held) (w .high-held) (w .low-finite) (w .high-finite) (w .width) h in
@@ -150,40 +162,37 @@ module _ {lo hi : Float} (w : Span lo hi) where
       (mul-smono binary64 G2 G (sub binary64 hi lo) (nat-fin G2 (G2-share .natural)) (nat-fin G (G-share .natural)) n (unfold le ofBits in tt))
 
 -- scores move no point
+abbrev secondAt : Bracket → Float → Float → Float → Bracket
+secondAt g s x v = record { a = g .a; b = g .b; c = g .c; d = g .d; h = g .h; fc = g .fc; fd = s; best = x; low = v }
+
 by-second : (g : Bracket) (s : Float) (Q : Bracket → Type 0) → ((x v : Float) → Q (secondAt g s x v)) → Q (secondOf g s)
 unfolding secondOf
-by-second g s Q q = go (le (g .fc) s)
-  where
-    go : (b : Bool) → Q (cond b (secondAt g s (g .c) (g .fc)) (secondAt g s (g .d) s))
-    go true = q _ _
-    go false = q _ _
+by-second g s Q q = q _ _
 
 pub opened-framed : {lo hi : Float} (w : Span lo hi) (s t : Float) → Framed (opened lo hi s t)
 unfolding startOf
 opened-framed {lo} {hi} w s t = by-second (firstOf (startOf lo hi) s) t Framed (λ x v. record { span = w; c = start-framed w .c; d = start-framed w .d })
 
 -- ---- a round that begins in order narrows the bracket
-pub round-narrows : (g : Bracket) (s : Float) → Framed g → Ordered g → Narrowed g (narrowOf g s)
+pub round-narrows : (g : Bracket) (s : Float) → Framed g → T (le (g .c) (g .d)) → Narrowed g (narrowOf g s)
 round-narrows g s o h =
     by-side g s (Narrowed g)
     (λ e x v.
-    let p = part-span (o .span) (low-inside (o .span)) (o .d) (o .d .low) in
-    record {
-      left = le-self (g .a) (o .span .low-finite);
-      right = o .d .high;
-      framed = record { span = p; c = rw (aim-left g e) (toward-inside p (low-inside p) (high-inside p) G2-share); d = record { held = o .c .held; low = o .c .low; high = h } };
-    })
+    let p = part-span (o .span) (low-inside (o .span)) (o .d) (o .d .low) in (
+      le-self (g .a) (o .span .low-finite),
+      o .d .high,
+      record { span = p; c = rw (aim-left g e) (toward-inside p (low-inside p) (high-inside p) G2-share); d = record { held = o .c .held; low = o .c .low; high = h } },
+    ))
     (λ e x v.
-    let p = part-span (o .span) (o .c) (high-inside (o .span)) (o .c .high) in
-    record {
-      left = o .c .low;
-      right = le-self (g .b) (o .span .high-finite);
-      framed = record { span = p; c = record { held = o .d .held; low = h; high = o .d .high }; d = rw (aim-right g e) (toward-inside p (low-inside p) (high-inside p) G-share) };
-    })
+    let p = part-span (o .span) (o .c) (high-inside (o .span)) (o .c .high) in (
+      o .c .low,
+      le-self (g .b) (o .span .high-finite),
+      record { span = p; c = record { held = o .d .held; low = h; high = o .d .high }; d = rw (aim-right g e) (toward-inside p (low-inside p) (high-inside p) G-share) },
+    ))
 
 pub narrowing : (g : Bracket) (l : List Float) → Framed g → Steady g l → Narrowing g l
 narrowing g [] o h = tt
-narrowing g (s ∷ l) o h = let n = round-narrows g s o (h .0) in (n, narrowing (narrowOf g s) l (n .framed) (h .1))
+narrowing g (s ∷ l) o h = let n = round-narrows g s o (h .0) in (n, narrowing (narrowOf g s) l (n .2) (h .1))
 
 -- ---- the bottom of a valley stays in the bracket
 
@@ -210,8 +219,8 @@ pub bottom-kept : (f : Float → Float) (g : Bracket) (s m : Float) → T (lt (g
     → Valley f (g .c ∷ g .d ∷ []) m → Inside (g .a) (g .b) m → Inside (narrowOf g s .a) (narrowOf g s .b) m
 bottom-kept f g s m h w v i =
     by-side g s (λ k. Inside (k .a) (k .b) m)
-    (λ e x y. record { held = i .held; low = i .low; high = left (subst⁻¹ T (rw (w .c, w .d) at e) tt) (le-total m (g .d) n (less-numbers (g .c) (g .d) h .1)) })
-    (λ e x y. record { held = i .held; low = right (rw (w .c, w .d) at e) (le-total (g .c) m (less-numbers (g .c) (g .d) h .0) n); high = i .high })
+    (λ e x y. record { held = i .held; low = i .low; high = left (subst⁻¹ T (rw (w .0, w .1) at e) tt) (le-total m (g .d) n (less-numbers (g .c) (g .d) h .1)) })
+    (λ e x y. record { held = i .held; low = right (rw (w .0, w .1) at e) (le-total (g .c) m (less-numbers (g .c) (g .d) h .0) n); high = i .high })
   where
     n : T (not (isNan m))
     n = most-number (g .a) m (i .low)
@@ -248,7 +257,7 @@ later-points g s l x =
     right (inr h) = inr (inr h)
 
 next-scored : (f : Float → Float) (g : Bracket) (s : Float) → ScoredBy f g → s ≡ f (aimOf g) → ScoredBy f (narrowOf g s)
-next-scored f g s w h = by-side g s (ScoredBy f) (λ e x y. record { c = h; d = w .c }) (λ e x y. record { c = w .d; d = h })
+next-scored f g s w h = by-side g s (ScoredBy f) (λ e x y. (h, w .0)) (λ e x y. (w .1, h))
 
 -- and through any number of rounds
 pub bottom-stays : (f : Float → Float) (m : Float) (g : Bracket) (l : List Float) → ScoredBy f g → Follows f g l
@@ -262,7 +271,7 @@ bottom-stays f m g (s ∷ l) w r v i =
 
 -- in order or not, no later bracket or point leaves a bracket that frames its points
 framed-within : (g : Bracket) → Framed g → Within (g .a) (g .b) g
-framed-within g o = record { a = low-inside (o .span); b = high-inside (o .span); c = o .c; d = o .d }
+framed-within g o = (low-inside (o .span), high-inside (o .span), o .c, o .d)
 
 pub later-within : (g : Bracket) (l : List Float) → Framed g → Within (g .a) (g .b) (playedOf g l) × Each (Inside (g .a) (g .b)) (triedOf g l)
 later-within g l o = (played-within (o .span) g l (framed-within g o), tried-inside (o .span) g l (framed-within g o))
@@ -280,13 +289,13 @@ best-tried g (s ∷ l) = go (best-tried (narrowOf g s) l) (best-is g s)
     go (inl e) (inr h) = inr (inl (e ∙ h .0))
     go (inr q) h = inr (inr q)
 
-pub searched : {lo hi : Float} (w : Span lo hi) (s t : Float) (l : List Float) → Searched lo hi s t l
+pub searched : {lo hi : Float} (w : Span lo hi) (s t : Float) (l : List Float) → SearchInside lo hi s t l
 unfolding startOf
 searched {lo} {hi} w s t l =
     let g = opened lo hi s t in
-    let i = by-second (firstOf (startOf lo hi) s) t (Within lo hi) (λ x v. record { a = low-inside w; b = high-inside w; c = start-framed w .c; d = start-framed w .d }) in
+    let i = by-second (firstOf (startOf lo hi) s) t (Within lo hi) (λ x v. (low-inside w, high-inside w, start-framed w .c, start-framed w .d)) in
     record {
-      points = (start-framed w .c, (start-framed w .d, tried-inside w g l i));
+      points = each-among (Inside lo hi) (pointsOf lo hi s t l) (start-framed w .c, (start-framed w .d, tried-inside w g l i));
       bracket = played-within w g l i;
       answer = go (best-tried g l) (best-of-two (firstOf (startOf lo hi) s) t);
     }

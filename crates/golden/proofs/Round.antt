@@ -5,7 +5,7 @@ use mathlib.Core.Logic.{_⊎_, inl, inr}
 use lib.Ieee.{Float, binary64, add, sub, mul, div, lt, le, ofBits}
 use Rattle.root.specs.Root.{root}
 use Rattle.golden.specs.declared.Bracket.{Bracket}
-use Rattle.golden.specs.Golden.{invPhi, invPhi2, G, G2, bestAt, secondOf, aimOf, improvedOf, narrowOf}
+use Rattle.golden.specs.Golden.{invPhi, invPhi2, G, G2, secondOf, aimOf, improvedOf, narrowOf}
 
 -- the constants of the code are the numbers that 000 works out
 pub G-is : G ≡ invPhi
@@ -35,23 +35,14 @@ round-000 f g =
     let fd = f d in
     record { a = a; b = g .b; c = c; d = d; h = h; fc = fc; fd = fd; best = cond (lt fd (g .low)) d (g .best); low = cond (lt fd (g .low)) fd (g .low) })
 
--- the best point and its score after a trial at x, each by its own test, as 000's `if fc < best_f` has them
-pub improved-is : (g : Bracket) (x s : Float) → improvedOf g x s ≡ bestAt g (cond (lt s (g .low)) x (g .best)) (cond (lt s (g .low)) s (g .low))
-unfolding improvedOf
-improved-is g x s = go (lt s (g .low)) refl
-  where
-    go : (b : Bool) → lt s (g .low) ≡ b → improvedOf g x s ≡ bestAt g (cond (lt s (g .low)) x (g .best)) (cond (lt s (g .low)) s (g .low))
-    go true e = rw e
-    go false e = rw e
-
 -- a round is 000's, the trial being at `aimOf g`
 pub round-is : (f : Float → Float) (g : Bracket) → narrowOf g (f (aimOf g)) ≡ round-000 f g
-unfolding narrowOf aimOf round-000
+unfolding narrowOf improvedOf aimOf round-000
 round-is f g = go (lt (g .fc) (g .fd)) refl
   where
     go : (b : Bool) → lt (g .fc) (g .fd) ≡ b → narrowOf g (f (aimOf g)) ≡ round-000 f g
-    go true e = rw (improved-is, e, ← G2-is)
-    go false e = rw (improved-is, e, ← G-is)
+    go true e = rw (e, ← G2-is)
+    go false e = rw (e, ← G-is)
 
 -- after a round the best point is the old one with its score, or the point tried, whose score is strictly lower
 pub best-is : (g : Bracket) (s : Float) →

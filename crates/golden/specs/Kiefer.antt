@@ -13,14 +13,14 @@
 -- 4. Its answer is the best point tried. The published answer is the last bracket.
 -- 5. It neither asks nor tests that the score has one valley. Where it has more, the answer is still the best point tried, and nothing is said of the points between.
 use mathlib.Core.Path.{_≡_}
-use mathlib.Core.Bool.{true, false, not}
+use mathlib.Core.Bool.{not, cond}
 use mathlib.Core.List.{List, [], _∷_}
 use mathlib.Core.Logic.{_⊎_}
 use lib.Dec.{T}
 use lib.Ieee.{Float, binary64, sub, lt, le, fits}
 use lib.Ieee.Scale.{finite}
 use Rattle.golden.specs.declared.Bracket.{Bracket}
-use Rattle.golden.specs.Golden.{startOf, firstOf, secondOf, aimOf, narrowOf}
+use Rattle.golden.specs.Golden.{startOf, firstOf, secondOf, goesLeft, aimOf, narrowOf}
 
 -- ---- places
 
@@ -40,11 +40,8 @@ pub record Inside (lo hi x : Float) : Type 0 where
   pub high : T (le x hi)
 
 -- the ends of g and its inner points lie from lo to hi
-pub record Within (lo hi : Float) (g : Bracket) : Type 0 where
-  pub a : Inside lo hi (g .a)
-  pub b : Inside lo hi (g .b)
-  pub c : Inside lo hi (g .c)
-  pub d : Inside lo hi (g .d)
+abbrev pub Within : Float → Float → Bracket → Type 0
+Within lo hi g = Inside lo hi (g .a) × Inside lo hi (g .b) × Inside lo hi (g .c) × Inside lo hi (g .d)
 
 -- the inner points of g lie in the bracket
 pub record Framed (g : Bracket) : Type 0 where
@@ -52,43 +49,18 @@ pub record Framed (g : Bracket) : Type 0 where
   pub c : Inside (g .a) (g .b) (g .c)
   pub d : Inside (g .a) (g .b) (g .d)
 
--- c ≤ d, which holds in every bracket of the published method
-abbrev pub Ordered : Bracket → Type 0
-Ordered g = T (le (g .c) (g .d))
+-- ---- a round
 
--- ---- a round from g to k, whose trial scores s
-
--- c scores lower: the part from a to d is kept, c and its score are reused as d, the new c is tried
-pub record KeepsLeft (g k : Bracket) (s : Float) : Type 0 where
-  pub lower : lt (g .fc) (g .fd) ≡ true
-  pub left : k .a ≡ g .a
-  pub right : k .b ≡ g .d
-  pub reused : k .d ≡ g .c
-  pub reused-score : k .fd ≡ g .fc
-  pub tried : k .c ≡ aimOf g
-  pub tried-score : k .fc ≡ s
-  pub width : k .h ≡ sub binary64 (k .b) (k .a)
-
--- it does not: the part from c to b is kept, d and its score are reused as c, the new d is tried
-pub record KeepsRight (g k : Bracket) (s : Float) : Type 0 where
-  pub lower : lt (g .fc) (g .fd) ≡ false
-  pub left : k .a ≡ g .c
-  pub right : k .b ≡ g .b
-  pub reused : k .c ≡ g .d
-  pub reused-score : k .fc ≡ g .fd
-  pub tried : k .d ≡ aimOf g
-  pub tried-score : k .fd ≡ s
-  pub width : k .h ≡ sub binary64 (k .b) (k .a)
-
--- a round of the published search
+-- from g to k, whose trial scores s. Where c scores lower, the part from a to d is kept, c and its score are reused as d, and the new c is tried;
+-- where it does not, the part from c to b is kept, d and its score are reused as c, and the new d is tried
 abbrev pub KieferRound : Bracket → Bracket → Float → Type 0
-KieferRound g k s = KeepsLeft g k s ⊎ KeepsRight g k s
+KieferRound g k s =
+    let after : Float × Float × Float × Float × Float × Float = (k .a, k .b, k .c, k .fc, k .d, k .fd) in
+    (after ≡ cond (goesLeft g) (g .a, g .d, aimOf g, s, g .c, g .fc) (g .c, g .b, g .d, g .fd, aimOf g, s)) × (k .h ≡ sub binary64 (k .b) (k .a))
 
 -- the bracket k lies within the bracket g, and its inner points lie in it
-pub record Narrowed (g k : Bracket) : Type 0 where
-  pub left : T (le (g .a) (k .a))
-  pub right : T (le (k .b) (g .b))
-  pub framed : Framed k
+abbrev pub Narrowed : Bracket → Bracket → Type 0
+Narrowed g k = T (le (g .a) (k .a)) × T (le (k .b) (g .b)) × Framed k
 
 -- ---- a search
 
@@ -106,20 +78,15 @@ unfoldable pub triedOf : Bracket → List Float → List Float
 triedOf g [] = []
 triedOf g (s ∷ l) = aimOf g ∷ triedOf (narrowOf g s) l
 
--- every member
-abbrev pub Each : (Float → Type 0) → List Float → Type 0
-Each P [] = Unit
-Each P (x ∷ l) = P x × Each P l
-
--- some member
+-- x is one of them
 abbrev pub Among : Float → List Float → Type 0
 Among x [] = ⊥
 Among x (y ∷ l) = (x ≡ y) ⊎ Among x l
 
--- the bracket of every round is ordered when the round begins
+-- the bracket of every round has c ≤ d when the round begins, as every bracket of the published method has
 abbrev pub Steady : Bracket → List Float → Type 0
 Steady g [] = Unit
-Steady g (s ∷ l) = Ordered g × Steady (narrowOf g s) l
+Steady g (s ∷ l) = T (le (g .c) (g .d)) × Steady (narrowOf g s) l
 
 -- every bracket lies within the one before
 abbrev pub Narrowing : Bracket → List Float → Type 0
@@ -131,8 +98,8 @@ abbrev pub pointsOf : Float → Float → Float → Float → List Float → Lis
 pointsOf lo hi s t l = startOf lo hi .c ∷ startOf lo hi .d ∷ triedOf (opened lo hi s t) l
 
 -- a search of any number of rounds: every point tried lies from lo to hi, so does the last bracket, and the answer is a point tried
-pub record Searched (lo hi s t : Float) (l : List Float) : Type 0 where
-  pub points : Each (Inside lo hi) (pointsOf lo hi s t l)
+pub record SearchInside (lo hi s t : Float) (l : List Float) : Type 0 where
+  pub points : (x : Float) → Among x (pointsOf lo hi s t l) → Inside lo hi x
   pub bracket : Within lo hi (playedOf (opened lo hi s t) l)
   pub answer : Among (playedOf (opened lo hi s t) l .best) (pointsOf lo hi s t l)
 
@@ -144,9 +111,8 @@ pub record Valley (f : Float → Float) (points : List Float) (m : Float) : Type
   pub rises : (x y : Float) → Among x points → Among y points → T (le m x) → T (lt x y) → T (lt (f x) (f y))
 
 -- the scores of g's inner points are those of f
-pub record ScoredBy (f : Float → Float) (g : Bracket) : Type 0 where
-  pub c : g .fc ≡ f (g .c)
-  pub d : g .fd ≡ f (g .d)
+abbrev pub ScoredBy : (Float → Float) → Bracket → Type 0
+ScoredBy f g = (g .fc ≡ f (g .c)) × (g .fd ≡ f (g .d))
 
 -- every round tries f at its point, and its bracket has c < d when the round begins
 abbrev pub Follows : (Float → Float) → Bracket → List Float → Type 0

@@ -1,5 +1,4 @@
-pub mod Sweeps
-pub mod Searches
-pub mod Memos
 pub mod Fits
 pub mod Literal
+pub mod Swept
+pub mod Bounds

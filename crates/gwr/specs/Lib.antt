@@ -1,4 +1,1 @@
-pub mod Sweep
-pub mod Search
-pub mod Memo
 pub mod Fit

@@ -1,5 +1,4 @@
-pub mod Steps
-pub mod Records
-pub mod Keeping
+pub mod Fits
+pub mod Begins
 pub mod Runs
-pub mod Judging
+pub mod Turning

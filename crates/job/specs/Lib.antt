@@ -1,4 +1,4 @@
-pub mod Step
-pub mod Run
 pub mod Fitness
+pub mod Begin
+pub mod Run
 pub mod Turn

@@ -1,29 +1,24 @@
 -- The distance between two places with finite coordinates is no NaN and not negative, and that of a place from itself is 0. Assumes nothing.
 use mathlib.Core.Path.{_≡_, refl, sym, ap, _∙_, subst}
 use mathlib.Core.Bool.{Bool, true, false, not, _&&_, cond, Bool·beq}
-use Prim.Native.Nat.{ℕ, zero, suc, _+_, _-_, _*_, _/_, _^_, _<_}
-use native.Mathlib.Nat.{sub-self, lt-irrefl, mul-pos, zero-mul, not-suc-le-zero}
+use Prim.Native.Nat.{ℕ, _+_, _-_, _*_, _<_}
+use native.Mathlib.Nat.{sub-self, lt-irrefl, mul-pos}
 use lib.IntN.{pos}
 use lib.Dec.{T, ltb, ltb→lt}
-use lib.Ieee.{Float, nan, inf, fin, Format, binary64, up, down, prec, emax, low, size, odd, units, round, sum, add, sub, mul, neg, lt, le, ofBits, isNan}
+use lib.Ieee.{Float, nan, inf, fin, Format, binary64, up, down, round, sum, add, sub, mul, neg, le, ofBits, isNan}
 use lib.Ieee.Fits.{down-pos}
 use lib.Ieee.Scale.{finite}
 use Rattle.real.specs.Reals.{zero64}
 use Rattle.real.proofs.Values.{untrue}
-use Rattle.real.proofs.SignedOrder.{nonneg, round-nonneg, round-neg, zero-of, nat-above}
-use Rattle.root.specs.Root.{root, rootUnits, nearestRoot, inUnits, inf64}
+use Rattle.real.proofs.SignedOrder.{nonneg, round-nonneg, round-neg, zero-of}
+use Rattle.root.specs.Root.{root}
+use Rattle.root.proofs.Order.{nonneg-number, nonneg-above, root-nonneg}
 use Rattle.kernel.specs.Weight.{squaresOf, distanceOf}
 
 abbrev Number : Float → Type 0
 Number x = T (not (isNan x))
 
 -- ---- a difference of finite numbers is no NaN
-pub nonneg-number : (x : Float) → T (nonneg x) → Number x × Number (neg x)
-unfolding isNan neg
-nonneg-number nan p = absurd p
-nonneg-number (inf s) p = (tt, tt)
-nonneg-number (fin s m e) p = (tt, tt)
-
 round-number : (f : Format) (s : Bool) (a c : ℕ) → Number (round f s a c)
 round-number f false a c = nonneg-number (round f false a c) (round-nonneg f a c) .0
 round-number f true a c = subst Number (sym (round-neg f a c)) (nonneg-number (round f false a c) (round-nonneg f a c) .1)
@@ -95,53 +90,9 @@ squares-nonneg ax ay bx by p =
     let t = terms-number (mul binary64 dx dx) (mul binary64 dy dy) p in
     sum-nonneg (mul binary64 dx dx) (mul binary64 dy dy) (square-nonneg dx (square-of-number dx (t .0))) (square-nonneg dy (square-of-number dy (t .1)))
 
-odd-nonneg : (d q k l : ℕ) → T (nonneg (odd d false q k l))
-unfolding odd
-odd-nonneg d zero k l = tt
-odd-nonneg d (suc q) k l = tt
-
-units-nonneg : (f : Format) (q k : ℕ) → T (nonneg (units f false q k))
-unfolding units
-units-nonneg f q k = go (ltb (q * 2 ^ k) (2 ^ (low f + suc (emax f))))
-  where
-    go : (b : Bool) → T (nonneg (cond b (odd (suc (prec f)) false q k (low f)) (inf false)))
-    go true = odd-nonneg (suc (prec f)) q k (low f)
-    go false = tt
-
-root-units-nonneg : (n : ℕ) → T (nonneg (rootUnits n))
-unfolding rootUnits
-root-units-nonneg n = let h = (size n + 1) / 2 in units-nonneg binary64 (nearestRoot (n * 2 ^ 106 / 4 ^ h)) (h + 484)
-
-pub not-below : (x : Float) → T (nonneg x) → lt x (fin false 0 (pos 0)) ≡ false
-unfolding lt
-not-below nan p = refl
-not-below (inf true) p = absurd p
-not-below (inf false) p = refl
-not-below (fin true m e) p = absurd p
-not-below (fin false m e) p =
-    untrue (ltb (m * up e * 1) (0 * down e))
-    (λ t. not-suc-le-zero (subst (λ (z : ℕ). m * up e * 1 < z) (zero-mul (down e)) (ltb→lt (m * up e * 1) (0 * down e) t)))
-
-pub root-nonneg : (x : Float) → T (nonneg x) → T (nonneg (root x))
-unfolding root ofBits
-root-nonneg x p =
-    subst (λ (b : Bool). T (nonneg (cond b nan (cond (lt (fin false 0 (pos 0)) x && lt x inf64) (rootUnits (inUnits x)) x)))) (sym (not-below x p))
-    (go (lt (fin false 0 (pos 0)) x && lt x inf64))
-  where
-    go : (b : Bool) → T (nonneg (cond b (rootUnits (inUnits x)) x))
-    go true = root-units-nonneg (inUnits x)
-    go false = p
-
-pub nonneg-above : (x : Float) → T (nonneg x) → T (le (fin false 0 (pos 0)) x)
-nonneg-above nan p = absurd p
-nonneg-above (inf true) p = absurd p
-nonneg-above (inf false) p = unfold le in tt
-nonneg-above (fin true m e) p = absurd p
-nonneg-above (fin false m e) p = nat-above (fin false m e) tt
-
 module _ (ax ay bx by : Float) (fax : T (finite ax)) (fay : T (finite ay)) (fbx : T (finite bx)) (fby : T (finite by)) where
   distance-nonneg : T (nonneg (distanceOf ax ay bx by))
-  unfolding distanceOf
+  unfolding distanceOf squaresOf
   distance-nonneg =
       let dx = sub binary64 ax bx in
       let dy = sub binary64 ay by in
@@ -177,7 +128,7 @@ root-of-none = refl
 
 -- what `weight-zero` asks, with s = false
 pub distance-own : (x y : Float) → T (finite x) → T (finite y) → distanceOf x y x y ≡ fin false 0 (pos 0)
-unfolding distanceOf
+unfolding distanceOf squaresOf
 distance-own x y p q =
     ap (λ (d : Float). root (add binary64 (mul binary64 d d) (mul binary64 (sub binary64 y y) (sub binary64 y y)))) (less-itself x p)
     ∙ ap (λ (d : Float). let z = fin false 0 (pos 0) in root (add binary64 (mul binary64 z z) (mul binary64 d d))) (less-itself y q)

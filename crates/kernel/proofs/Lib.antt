@@ -1,5 +1,4 @@
 pub mod WeightRange
 pub mod DistanceRange
 pub mod Published
-pub mod RootOrder
 pub mod Reaches

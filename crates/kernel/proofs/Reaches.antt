@@ -6,24 +6,25 @@ use lib.Ieee.{Float, nan, inf, fin, binary64, sub, mul, lt, le, ofBits, fits, is
 use lib.Ieee.Bits.{is-true, is-false}
 use lib.Ieee.Fits.{add-fits, mul-fits, and-l, and-r}
 use lib.Ieee.Scale.{finite}
-use Rattle.real.specs.Reals.{zero64}
+use Rattle.real.specs.Reals.{zero64, inf64}
 use Rattle.real.proofs.Values.{untrue}
 use Rattle.real.proofs.SignedOrder.{nonneg, le-tr, nlt→le}
-use Rattle.root.specs.Root.{root, inf64}
+use Rattle.root.specs.Root.{root}
 use Rattle.kernel.specs.declared.GwrKernel.{GwrKernel}
 use Rattle.kernel.specs.declared.GwrKernel.the-variants.{Gaussian, Bisquare, Exponential}
-use Rattle.kernel.specs.Weight.{squaresOf, distanceOf, unusable, bisquareWeight, weightOf}
+use Rattle.kernel.specs.Published.{bisquareFormula}
+use Rattle.kernel.specs.Weight.{squaresOf, distanceOf, unusable, weightOf}
 use Rattle.kernel.specs.Reach.{bisquareReach, reachOf, Reach}
 use Rattle.kernel.proofs.DistanceRange.{square-nonneg}
 use Rattle.kernel.proofs.WeightRange.{usable-of}
-use Rattle.kernel.proofs.RootOrder.{not-both, either, root-ends, and-false, root-order}
+use Rattle.root.proofs.Order.{not-both, either, root-ends, and-false, root-order}
 
 pub squares-fits : (ax ay bx by : Float) → T (fits binary64 (squaresOf ax ay bx by))
 unfolding squaresOf
 squares-fits ax ay bx by = let dx = sub binary64 ax bx in let dy = sub binary64 ay by in add-fits binary64 (mul binary64 dx dx) (mul binary64 dy dy)
 
 pub distance-is : (ax ay bx by : Float) → distanceOf ax ay bx by ≡ root (squaresOf ax ay bx by)
-unfolding distanceOf squaresOf
+unfolding distanceOf
 distance-is ax ay bx by = refl
 
 -- ---- no number is from NaN on
@@ -85,7 +86,7 @@ unfolding ofBits
 in-use b u = let h = usable-of b u in (and-l (finite b) (lt zero64 b) h, and-r (finite b) (lt zero64 b) h)
 
 bisquare-reach : (b : Float) → Reach Bisquare b (bisquareReach b)
-unfolding bisquareReach weightOf bisquareWeight
+unfolding bisquareReach weightOf bisquareFormula
 bisquare-reach b =
     either (unusable b) (λ u. rw (is-true (unusable b) u) (nowhere Bisquare b))
     (λ u.

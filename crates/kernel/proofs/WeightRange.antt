@@ -6,7 +6,7 @@ use native.Mathlib.Nat.{le-trans, le-refl, le-of-lt, le-of-eq, le-suc, mul-one, 
 use native.Mathlib.Omega.{arith}
 use mathlib.Core.Bool.{Bool, true, false, not, _&&_, _||_, cond}
 use lib.Arith.{le-zero}
-use lib.IntN.{ℤ, pos, negsuc}
+use lib.IntN.{ℤ, pos}
 use lib.Dec.{T, leb, ltb, eqb, ltb→lt, lt→ltb, lit<}
 use lib.Ieee.{Float, nan, inf, fin, binary64, up, down, add, mul, div, sub, neg, lt, le, eq, ofBits, ofInt, round, isNan, fits, unlike}
 use lib.Ieee.Bits.{is-true}
@@ -15,41 +15,39 @@ use lib.Ieee.Order.{round-mono}
 use lib.Ieee.Scale.{finite, round-same}
 use lib.Ieee.Positive.{num, den, den-pos}
 use Rattle.real.specs.Reals.{zero64, one64, magnitude}
+use Rattle.real.specs.Arithmetic.{rounded}
+use Rattle.real.proofs.Closed.{one, half, nought}
 use Rattle.real.proofs.SignedOrder.{sgn, le-tr, neg-anti, natural, nat-fin, nat-sgn, add-mono, mul-opened, div-by, div-smono, mag-of, mag-finite, in-fin, lt→le, le-self, sub-opened, neg-finite, zero-of, zero-over, round-sgn, round-mag, round-below, square-mag, nat-above, lt-of-not-le}
 use Rattle.elementary.specs.Exp.{expv}
 use Rattle.elementary.proofs.ExpRange.{exp-in}
 use Rattle.kernel.specs.declared.GwrKernel.{GwrKernel}
 use Rattle.kernel.specs.declared.GwrKernel.the-variants.{Gaussian, Bisquare, Exponential}
-use Rattle.kernel.specs.Weight.{unusable, degenerateWeight, gaussianWeight, bisquareWeight, exponentialWeight, kernelWeight, weightOf, totalOf, FromZeroToOne}
+use Rattle.kernel.specs.Published.{gaussianFormula, bisquareFormula, exponentialFormula, kernelFormula}
+use Rattle.kernel.specs.Weight.{unusable, weightOf, FromZeroToOne}
 
 -- ---- the definitions with their constants computed
 
-abbrev one : Float
-one = fin false 1 (pos 0)
-
-abbrev half : Float
-half = fin false 1 (negsuc 0)
-
-abbrev nought : Float
-nought = fin false 0 (pos 0)
+-- the weight under a bandwidth that is finite and above 0
+abbrev pub kernelWeight : GwrKernel → Float → Float → Float
+kernelWeight k d b = kernelFormula rounded expv (λ x. x) k d b
 
 abbrev usable : Float → Bool
 usable b = finite b && lt nought b
 
-gaussian-is : (d b : Float) → gaussianWeight d b ≡ (let r = div binary64 d b in expv (mul binary64 (mul binary64 (neg half) r) r))
-unfolding gaussianWeight ofBits
+gaussian-is : (d b : Float) → gaussianFormula rounded expv d b ≡ (let r = div binary64 d b in expv (mul binary64 (mul binary64 (neg half) r) r))
+unfolding gaussianFormula ofBits
 gaussian-is d b = refl
 
-bisquare-is : (d b : Float) → bisquareWeight d b ≡ cond (lt d b) (let r = div binary64 d b in let t = sub binary64 one (mul binary64 r r) in mul binary64 t t) nought
-unfolding bisquareWeight ofBits
+bisquare-is : (d b : Float) → bisquareFormula rounded d b ≡ cond (lt d b) (let r = div binary64 d b in let t = sub binary64 one (mul binary64 r r) in mul binary64 t t) nought
+unfolding bisquareFormula ofBits
 bisquare-is d b = refl
 
-exponential-is : (d b : Float) → exponentialWeight d b ≡ expv (div binary64 (neg d) b)
-unfolding exponentialWeight
+exponential-is : (d b : Float) → exponentialFormula rounded expv d b ≡ expv (div binary64 (neg d) b)
+unfolding exponentialFormula
 exponential-is d b = refl
 
 weight-is : (k : GwrKernel) (d b : Float) → weightOf k d b ≡ cond (unusable b) (cond (eq d nought) one nought) (kernelWeight k d b)
-unfolding weightOf degenerateWeight ofBits
+unfolding weightOf ofBits
 weight-is k d b = refl
 
 abbrev In01 : Float → Type 0
@@ -244,6 +242,7 @@ in-cond true x y h k = h tt
 in-cond false x y h k = k tt
 
 in-exp : (v : Float) → T (le v nought) → In01 (expv v)
+unfolding ofBits
 in-exp v h = let i = exp-in v (not-nan-le v nought h) h in (i .1, i .2)
 
 kernel-in : (k : GwrKernel) (d b : Float) → T (usable b) → T (le nought d) → In01 (kernelWeight k d b)
@@ -326,6 +325,13 @@ weight-zero k s b = weight-is k (fin s 0 (pos 0)) b ∙ go (unusable b) (λ u. k
     go false h = h tt
 
 -- ---- the sum of the first n weights
+
+-- the sum of w 0 to w (n - 1), from 0, in order
+unfoldable pub totalOf : (ℕ → Float) → ℕ → Float
+unfolding add
+totalOf w zero = zero64
+totalOf w (suc n) = add binary64 (totalOf w n) (w n)
+
 total-suc : (w : ℕ → Float) (n : ℕ) → totalOf w (suc n) ≡ add binary64 (totalOf w n) (w n)
 unfolding totalOf ofBits
 total-suc w n = refl

@@ -1,3 +1,3 @@
+pub mod Published
 pub mod Weight
 pub mod Reach
-pub mod Published

@@ -1,3 +1,5 @@
 pub mod Texts
-pub mod Reading
+pub mod Fronts
 pub mod Numbers
+pub mod Judged
+pub mod Reading

@@ -1,33 +1,26 @@
 -- The text of bytes that hold numbers is the text of the numbers.
 use mathlib.Core.Path.{_≡_, refl, sym, ap, _∙_}
 use mathlib.Core.List.{List, [], _∷_, _++_, map, map-append, append-assoc}
-use Prim.Native.Nat.{ℕ, zero, suc, _+_, _*_, _/_, _%_, _^_, _≤_, _<_}
-use native.Mathlib.Nat.{suc-mul, mul-le-mul}
+use Prim.Native.Nat.{ℕ, zero, suc, _+_, _*_, _/_, _%_, _≤_, _<_}
+use native.Mathlib.Nat.{suc-mul}
 use native.Mathlib.Omega.{arith}
-use borrow.Author.Tests.{eq-eqb, ne-eqb, le-ltb}
-use lib.ListN.{length, take, drop, getD, replicate, length-drop, length-replicate}
-use lib.Seq.{length-take-le, take-all, take-at, drop-at, drop-drop, take-suc, getD-drop}
+use lib.ListN.{length, take, drop, getD, length-drop}
+use lib.Seq.{take-all, take-at, drop-at, drop-drop, take-suc, getD-drop}
 use lib.Ieee.{Float, nan}
-use Rattle.wire.specs.Wire.{bitsOf, lowBytes, bytesOf, numberOf, loadOf, placed, reals, realBytes}
+use Rattle.wire.specs.Wire.{bitsOf, lowBytes, bytesOf, numberOf, loadOf, placed, realBytes}
 use Rattle.wire.proofs.Numbers.{length-bytesOf}
-use Rattle.text.specs.Listing.{hexIn, hexDigits, bitsText, bitsTexts, rowLine, rowLines, summaryLine, listing, loads, rowsOf}
+use Rattle.text.specs.Listing.{hexIn, bitsText, bitsTexts, rowLine, rowLines, summaryLine, listing, loads, rowsOf}
+use Rattle.refusal.proofs.Range.{numbered}
 use Rattle.criterion.specs.declared.Summary.{Summary}
-use Rattle.plan.specs.declared.GwrOptions.{GwrOptions}
-use Rattle.plan.specs.declared.Check.{Check}
-use Rattle.plan.specs.declared.Check.the-variants as check
-use Rattle.plan.specs.Checks.{judge}
+use Rattle.sweep.specs.declared.Finish.the-variants.{Fitted, Failed}
 use Rattle.gwr.specs.declared.FitAnswer.{FitAnswer}
-use Rattle.gwr.specs.declared.FitAnswer.the-variants.{Fitted, Failed, Rejected}
-use Rattle.calls.specs.declared.Choice.{Choice}
-use Rattle.calls.specs.declared.Choice.the-variants as choice
-use Rattle.calls.specs.Options.{optionsOf}
-use Rattle.calls.specs.Calls.{After, partTests, byteTests, roomOf, summaryBytes, written, answerBytes, fitted, fitParts, checked, chosenBytes, fitBytes}
-use Rattle.calls.proofs.Counts.{refusal-ranged, summary-solves}
-use Rattle.listing.specs.declared.Head.{Head}
-use Rattle.listing.specs.Jobs.{placesEnd, predictorsEnd, responsesEnd, answerText, fitOfParts, wholeText}
-use Rattle.listing.specs.Numbers.{coordinatesIn, predictorsIn, responsesIn, fitIn, rowsIn, fitText}
+use Rattle.gwr.specs.declared.FitAnswer.the-variants.{Done, Rejected}
+use Rattle.gwr.proofs.Bounds.{Sound}
+use Rattle.calls.specs.Calls.{summaryBytes, placedRows, answerBytes}
+use Rattle.calls.proofs.Counts.{summary-solves}
+use Rattle.listing.specs.Jobs.{answerText}
+use Rattle.listing.specs.Numbers.{rowsIn, fitText}
 use Rattle.listing.proofs.Texts.{refused-text, listing-text}
-use Rattle.listing.proofs.Reading.{load-front}
 
 -- ---- a number from its 8 bytes: its 16 lowest hexadecimal digits are there
 
@@ -51,7 +44,7 @@ hex-pairs (suc k) v =
     rw (a, b, c, d, hex-pairs k (v / 256))
 
 bits-low : (v : ℕ) → bitsText (low v) ≡ bitsText v
-unfolding bitsText hexDigits bytesOf
+unfolding bitsText bytesOf
 bits-low v = ap (λ (l : List ℕ). 32 ∷ l) (hex-pairs 8 v)
 
 -- ---- numbers one after the other
@@ -146,78 +139,14 @@ rows-text : (w : List Float) (out : List ℕ) (width n : ℕ) → n * width ≤ 
 unfolding placed
 rows-text w out width n h = ap (rowLines 0) (rows-real w (drop (0 + length (realBytes w)) out) width n h) ∙ rows-low 0 (rowsIn w width n)
 
--- a fit that wrote all n rows, and whose solve count has 8 bytes
-abbrev pub Printable : FitAnswer → ℕ → ℕ → Type 0
-Printable (Fitted v) rows n = (rows ≡ n) × (v .solves < 2 ^ 64)
-Printable (Failed r v) rows n = Unit {0}
-Printable (Rejected r) rows n = Unit {0}
-
 module _ (n width : ℕ) (w : List Float) (out summary : List ℕ) (long : length w ≡ n * width) where
-  pub answer-text : (a : FitAnswer) (rows : ℕ) → Printable a rows n → answerText (answerBytes a (take (rows * width) w) out summary) n width ≡ fitText a (rowsIn w width n)
-  unfolding written
-  answer-text (Fitted v) rows h =
-      let e : take (rows * width) w ≡ w = ap (λ (k : ℕ). take (k * width) w) (h .0) ∙ take-all (n * width) w (omega arith) in
-      sym (listing-text (answerBytes (Fitted v) (take (rows * width) w) out summary) n width (omega arith))
-      ∙ listing-same _ _ _ _ _ _ _ _ (ap bitsText (bandwidth-low v summary) ∙ bits-low (bitsOf (v .bandwidth))) (ap bitsText (aicc-low v summary) ∙ bits-low (bitsOf (v .aicc))) (summary-solves summary v (h .1))
+  -- the text of an answer's bytes is that of the answer
+  pub answer-text : (a : FitAnswer) (rows room : ℕ) → Sound a rows n room → answerText (answerBytes a (take (rows * width) w) out summary) n width ≡ fitText a (rowsIn w width n)
+  unfolding placedRows
+  answer-text (Done (Fitted v)) rows room h =
+      let e : take (rows * width) w ≡ w = ap (λ (k : ℕ). take (k * width) w) (h .1 .1) ∙ take-all (n * width) w (omega arith) in
+      sym (listing-text (answerBytes (Done (Fitted v)) (take (rows * width) w) out summary) n width (omega arith))
+      ∙ listing-same _ _ _ _ _ _ _ _ (ap bitsText (bandwidth-low v summary) ∙ bits-low (bitsOf (v .bandwidth))) (ap bitsText (aicc-low v summary) ∙ bits-low (bitsOf (v .aicc))) (summary-solves summary v (omega (arith, h .1 .0)))
       (ap (λ (l : List Float). rowLines 0 (rowsOf (placed out 0 (realBytes l)) width n)) e ∙ rows-text w out width n (omega arith))
-  answer-text (Failed r v) rows h = sym (refused-text (answerBytes (Failed r v) (take (rows * width) w) out summary) n width (refusal-ranged r .some))
-  answer-text (Rejected r) rows h = sym (refused-text (answerBytes (Rejected r) (take (rows * width) w) out summary) n width (refusal-ranged r .some))
-
--- ---- the fit of whole parts
-
-reals-front : (s : List ℕ) (k m : ℕ) → 8 * m ≤ k → reals (take k s) m ≡ reals s m
-unfolding reals
-reals-front s k zero h = refl
-reals-front s k (suc m) h = rw (reals-front s k m (omega arith), load-front s (8 * m) k (omega arith))
-
-lengths-pass : (a x y n p : ℕ) → a ≡ 16 * n → x ≡ 8 * (n * p) → y ≡ 8 * n → 1 ≤ n → n ≤ 512 → p ≤ 7 → judge (byteTests a x y p) ≡ check.Pass
-unfolding judge byteTests partTests
-lengths-pass a x y n p ea ex ey some few narrow =
-    let e : a / 16 ≡ n = omega arith in
-    let z : a ≡ 0 → ⊥ = λ q. omega arith in
-    rw (e, ne-eqb a 0 z, le-ltb 0 (a % 16) (omega arith), le-ltb 512 n few, le-ltb 7 p narrow, eq-eqb x (8 * (n * p)) ex, eq-eqb y (8 * n) ey)
-
-room-is : (n p out summary : ℕ) → 8 * (n * (p + 4)) ≤ out → 24 ≤ summary → roomOf n p out summary ≡ n * (p + 4)
-unfolding roomOf
-room-is n p out summary h k = rw (le-ltb summary 24 k, le-ltb out (8 * (n * (p + 4))) h)
-
-module _ (h : Head) (parts : List ℕ) (o : GwrOptions) (known : optionsOf (h .kernel) (h .kind) (h .bandwidth) ≡ choice.Known o) (some : 1 ≤ h .n) (few : h .n ≤ 512) (narrow : h .p ≤ 7) (whole : responsesEnd (h .n) (h .p) ≤ length parts) where
-  abbrev A : List ℕ
-  A = take (placesEnd (h .n)) parts
-
-  abbrev B : List ℕ
-  B = take (8 * (h .n * h .p)) (drop (placesEnd (h .n)) parts)
-
-  abbrev D : List ℕ
-  D = take (8 * h .n) (drop (predictorsEnd (h .n) (h .p)) parts)
-
-  abbrev n : ℕ
-  n = h .n
-
-  abbrev p : ℕ
-  p = h .p
-
-  parts-fit : (out summary : List ℕ) → 8 * (n * (p + 4)) ≤ length out → 24 ≤ length summary → fitOfParts h parts out summary ≡ fitted p (fitIn h parts o) out summary
-  unfolding fitOfParts fitBytes fitParts
-  parts-fit out summary room space =
-      let la : length A ≡ 16 * n = length-take-le (16 * n) parts (omega arith) in
-      let lb : length B ≡ 8 * (n * p) = length-take-le (8 * (n * p)) (drop (16 * n) parts) (omega (arith, length-drop (16 * n) parts)) in
-      let ld : length D ≡ 8 * n = length-take-le (8 * n) (drop (predictorsEnd n p) parts) (omega (arith, length-drop (predictorsEnd n p) parts)) in
-      let m : length A / 16 ≡ n = omega arith in
-      let r : roomOf n p (length out) (length summary) ≡ n * (p + 4) = room-is n p (length out) (length summary) room space in
-      let c : reals A (2 * n) ≡ coordinatesIn h parts = reals-front parts (16 * n) (2 * n) (omega arith) in
-      let x : reals B (n * p) ≡ predictorsIn h parts = reals-front (drop (16 * n) parts) (8 * (n * p)) (n * p) (omega arith) in
-      let y : reals D n ≡ responsesIn h parts = reals-front (drop (predictorsEnd n p) parts) (8 * n) n (omega arith) in
-      ap (λ (q : Choice). chosenBytes q A B D p out summary) known
-      ∙ ap (λ (k : Check). checked k (fitParts A B D (length A / 16) p o out summary) out summary) (lengths-pass (length A) (length B) (length D) n p la lb ld some few narrow)
-      ∙ ap (λ (k : ℕ). fitParts A B D k p o out summary) m
-      ∙ rw (r, c, x, y)
-
-  -- the text of whole parts
-  pub whole-numbers : length (fitIn h parts o .1) ≡ n * (p + 4) → Printable (fitIn h parts o .0 .answer) (fitIn h parts o .0 .rows) n
-      → wholeText h parts (replicate 45056 0) (replicate 24 0) ≡ fitText (fitIn h parts o .0 .answer) (rowsIn (fitIn h parts o .1) (p + 4) n)
-  unfolding wholeText
-  whole-numbers long ready =
-      let wide : p + 4 ≤ 11 = omega arith in
-      ap (λ (a : After). answerText a n (p + 4)) (parts-fit (replicate 45056 0) (replicate 24 0) (omega (arith, mul-le-mul few wide, length-replicate {A = ℕ} 45056 0)) (omega (arith, length-replicate {A = ℕ} 24 0)))
-      ∙ answer-text n (p + 4) (fitIn h parts o .1) (replicate 45056 0) (replicate 24 0) long (fitIn h parts o .0 .answer) (fitIn h parts o .0 .rows) ready
+  answer-text (Done (Failed r v)) rows room h = sym (refused-text (answerBytes (Done (Failed r v)) (take (rows * width) w) out summary) n width (numbered r .some))
+  answer-text (Rejected r) rows room h = sym (refused-text (answerBytes (Rejected r) (take (rows * width) w) out summary) n width (numbered r .some))

@@ -1,50 +1,26 @@
 -- What is printed depends on no byte behind those that are read.
 use mathlib.Core.Path.{_≡_, refl, sym, ap, _∙_}
-use mathlib.Core.Bool.{Bool, true, false}
-use mathlib.Core.List.{List, [], _∷_, _++_, append-nil}
-use Prim.Native.Nat.{ℕ, zero, suc, _+_, _*_, _-_, _≤_, _<_}
-use native.Mathlib.Nat.{mul-add, sub-zero, suc-sub-suc}
+use mathlib.Core.Bool.{Bool}
+use mathlib.Core.List.{List, _++_, append-nil}
+use Prim.Native.Nat.{ℕ, _+_, _*_, _-_, _≤_, _<_}
+use native.Mathlib.Nat.{mul-add}
 use native.Mathlib.Omega.{arith}
-use borrow.Author.Tests.{ltb-true, ltb-false, lt-ltb, le-ltb}
-use lib.Dec.{ltb}
-use lib.ListN.{length, take, drop, replicate, length-take}
-use lib.Seq.{take-all, take-nil, take-take, take-add, take-at, drop-at}
-use Rattle.wire.specs.Wire.{numberOf, loadOf, placed}
-use Rattle.text.specs.Listing.{Written}
+use lib.ListN.{length, take, drop, replicate}
+use lib.Seq.{take-all, take-take, take-add, take-at, drop-at}
+use Rattle.wire.specs.Wire.{placed}
+use Rattle.text.specs.Listing.{WrittenText}
 use Rattle.refusal.specs.declared.Refusal.{Refusal}
-use Rattle.plan.specs.Checks.{judge}
-use Rattle.calls.specs.Calls.{After}
+use Rattle.checks.specs.Judge.{judge, ruled}
+use Rattle.calls.specs.Calls.{AfterCall}
 use Rattle.listing.specs.declared.Head.{Head}
 use Rattle.listing.specs.declared.Header.{Header}
 use Rattle.listing.specs.declared.Header.the-variants.{Whole, Refused}
 use Rattle.listing.specs.Headers.{headerTests, headerOf, partsLen}
-use Rattle.listing.specs.Jobs.{placesEnd, predictorsEnd, responsesEnd, cutTests, answerText, fitOfParts, wholeText, textAfter, jobText}
-use Rattle.listing.specs.Printed.{textOf, printed, asked, readOf}
+use Rattle.listing.specs.Jobs.{placesEnd, predictorsEnd, responsesEnd, cutTests, answerText, callOfParts, wholeText, refusedText, jobText}
+use Rattle.listing.specs.Printed.{textOf, printed, printedParts, asked, readOf}
 use Rattle.listing.proofs.Texts.{header-short}
-
--- ---- the first m of a list
-
-drop-take : {A : Type 0} (k m : ℕ) (l : List A) → k ≤ m → drop k (take m l) ≡ take (m - k) (drop k l)
-drop-take zero m l h = rw sub-zero
-drop-take (suc k) zero l h = absurd (omega arith)
-drop-take (suc k) (suc m) [] h = sym (take-nil (suc m - suc k))
-drop-take (suc k) (suc m) (a ∷ l) h = rw suc-sub-suc (drop-take k m l (omega arith))
-
--- a part of it
-pub part-front : {A : Type 0} (a k m : ℕ) (l : List A) → k + a ≤ m → take a (drop k (take m l)) ≡ take a (drop k l)
-part-front a k m l h = ap (take a) (drop-take k m l (omega arith)) ∙ take-take a (m - k) (drop k l) (omega arith)
-
-pub load-front : (l : List ℕ) (k m : ℕ) → k + 8 ≤ m → loadOf (take m l) k ≡ loadOf l k
-unfolding loadOf
-load-front l k m h = ap numberOf (part-front 8 k m l h)
-
--- whether it is shorter than e
-short-front : (l : List ℕ) (e m : ℕ) → e ≤ m → ltb (length (take m l)) e ≡ ltb (length l) e
-short-front l e m h = go (ltb (length l) e) refl
-  where
-    go : (b : Bool) → ltb (length l) e ≡ b → ltb (length (take m l)) e ≡ b
-    go true f = lt-ltb (length (take m l)) e (omega (arith, length-take m l, ltb-true (length l) e f))
-    go false f = le-ltb (length (take m l)) e (omega (arith, length-take m l, ltb-false (length l) e f))
+use Rattle.listing.proofs.Fronts.{drop-take, part-front, load-front, short-front}
+use Rattle.listing.proofs.Judged.{parts-printed}
 
 -- ---- header, parts and text
 
@@ -58,35 +34,38 @@ module _ (h : Head) (parts : List ℕ) (m : ℕ) (whole : responsesEnd (h .n) (h
   unfolding cutTests
   cut-front = rw (short-front parts (placesEnd (h .n)) m (omega arith), short-front parts (predictorsEnd (h .n) (h .p)) m (omega arith), short-front parts (responsesEnd (h .n) (h .p)) m)
 
-  fit-front : (out summary : List ℕ) → fitOfParts h (take m parts) out summary ≡ fitOfParts h parts out summary
-  unfolding fitOfParts
-  fit-front out summary =
+  call-front : (out summary : List ℕ) → callOfParts h (take m parts) out summary ≡ callOfParts h parts out summary
+  unfolding callOfParts
+  call-front out summary =
       rw (take-take (placesEnd (h .n)) m parts (omega arith), part-front (8 * (h .n * h .p)) (placesEnd (h .n)) m parts (omega arith), part-front (8 * h .n) (predictorsEnd (h .n) (h .p)) m parts)
 
   job-front : jobText h (take m parts) ≡ jobText h parts
   unfolding jobText wholeText
   job-front =
-      ap (λ (ts : List (Bool × Refusal)). textAfter (judge ts) (wholeText h (take m parts) (replicate 45056 0) (replicate 24 0))) cut-front
-      ∙ ap (λ (a : After). textAfter (judge (cutTests (length parts) (h .n) (h .p))) (answerText a (h .n) (h .p + 4))) (fit-front (replicate 45056 0) (replicate 24 0))
+      ap (λ (ts : List (Bool × Refusal)). ruled (judge ts) refusedText (wholeText h (take m parts) (replicate 45056 0) (replicate 24 0))) cut-front
+      ∙ ap (λ (a : AfterCall). ruled (judge (cutTests (length parts) (h .n) (h .p))) refusedText (answerText a (h .n) (h .p + 4))) (call-front (replicate 45056 0) (replicate 24 0))
 
 text-front : (h : Header) (parts : List ℕ) → textOf h (take (asked h) parts) ≡ textOf h parts
 text-front (Whole h) parts = job-front h parts (partsLen (h .n) (h .p)) (omega (arith, mul-add (h .n) (h .p) 3))
 text-front (Refused r) parts = refl
 
 -- what is printed of the bytes that the program reads is what is printed of its standard input
-pub printed-read : (input : List ℕ) → printed (readOf input) ≡ printed input
-unfolding printed
-printed-read input =
+parts-read : (input : List ℕ) → printedParts (readOf input) ≡ printedParts input
+unfolding printedParts
+parts-read input =
     let a = asked (headerOf input) in
     let e : readOf input ≡ take (40 + a) input = ap (λ (h : Header). take 40 input ++ take (asked h) (drop 40 input)) (header-front input 40 (omega arith)) ∙ sym (take-add 40 a input) in
     let d : drop 40 (take (40 + a) input) ≡ take a (drop 40 input) = drop-take 40 (40 + a) input (omega arith) ∙ ap (λ (k : ℕ). take k (drop 40 input)) (let z : 40 + a - 40 ≡ a = omega arith in z) in
-    ap printed e
+    ap printedParts e
     ∙ ap (λ (h : Header). textOf h (drop 40 (take (40 + a) input))) (header-front input (40 + a) (omega arith))
     ∙ ap (textOf (headerOf input)) d
     ∙ text-front (headerOf input) (drop 40 input)
 
+pub printed-read : (input : List ℕ) → printed (readOf input) ≡ printed input
+printed-read input = sym (parts-printed (readOf input)) ∙ parts-read input ∙ parts-printed input
+
 -- of an input of which the program has read what it asks for, the bytes that it hands on to be written are all that is owed
-pub handed-on : (input d₀ d : List ℕ) (end : ℕ) → Written d₀ 0 (printed (readOf input)) d end → take end d ≡ printed input
+pub handed-on : (input d₀ d : List ℕ) (end : ℕ) → WrittenText d₀ 0 (printed (readOf input)) d end → take end d ≡ printed input
 unfolding placed
 handed-on input d₀ d end w =
     let line = printed (readOf input) in
@@ -96,7 +75,7 @@ handed-on input d₀ d end w =
 
 -- bytes that are too few for a header ask for none
 pub asked-none : (s : List ℕ) → length s < 40 → asked (headerOf s) ≡ 0
-asked-none s h = sym (ap (λ (k : Header). asked k) (header-short s h .is))
+asked-none s h = sym (ap (λ (k : Header). asked k) (header-short s h))
 
 pub read-short : (s : List ℕ) → length s < 40 → readOf s ≡ s
 read-short s h =

@@ -1,19 +1,14 @@
 -- The header that `gwrprint` reads, and what is refused before reading on. Definitions only.
-use Prim.Native.Nat.{ℕ, _+_, _*_, _≤_}
-use mathlib.Core.Path.{_≡_}
-use mathlib.Core.Bool.{Bool, true, false}
+use Prim.Native.Nat.{ℕ, _+_, _*_}
+use mathlib.Core.Bool.{Bool}
 use mathlib.Core.List.{List, [], _∷_}
 use lib.Dec.{eqb, ltb}
 use lib.ListN.{length}
 use Rattle.wire.specs.Wire.{loadOf}
 use Rattle.refusal.specs.declared.Refusal.{Refusal}
 use Rattle.refusal.specs.declared.Refusal.the-variants.{NoCoordinates, TooManyObservations, TooManyPredictors, UnknownNumber}
-use Rattle.plan.specs.declared.Check.{Check}
-use Rattle.plan.specs.declared.Check.the-variants as check
-use Rattle.plan.specs.Checks.{judge}
-use Rattle.calls.specs.declared.Choice.{Choice}
-use Rattle.calls.specs.declared.Choice.the-variants as choice
-use Rattle.calls.specs.Options.{optionsOf}
+use Rattle.checks.specs.Judge.{judge, ruled}
+use Rattle.calls.specs.Options.{optionsOf, isUnknown}
 use Rattle.listing.specs.declared.Head.{Head}
 use Rattle.listing.specs.declared.Header.{Header}
 use Rattle.listing.specs.declared.Header.the-variants.{Whole, Refused}
@@ -21,10 +16,6 @@ use Rattle.listing.specs.declared.Header.the-variants.{Whole, Refused}
 -- 01: n, p, kernel, kind, bandwidth, 8 bytes each
 abbrev pub headOf : List ℕ → Head
 headOf s = record { n = loadOf s 0; p = loadOf s 8; kernel = loadOf s 16; kind = loadOf s 24; bandwidth = loadOf s 32 }
-
-abbrev pub isUnknown : Choice → Bool
-isUnknown (choice.Known o) = false
-isUnknown choice.Unknown = true
 
 -- 01: n of 0 or over 512 and p over 7 are refused before reading on
 unfoldable pub sizeTests : ℕ → ℕ → List (Bool × Refusal)
@@ -37,24 +28,16 @@ headerTests s =
     ∷ (isUnknown (optionsOf (loadOf s 16) (loadOf s 24) (loadOf s 32)), UnknownNumber)
     ∷ sizeTests (loadOf s 0) (loadOf s 8)
 
-abbrev pub headerAfter : Check → Head → Header
-headerAfter check.Pass h = Whole h
-headerAfter (check.Refused r) h = Refused r
+-- ---- what the code's parts give
 
 -- the header of these bytes
 unfoldable pub headerOf : List ℕ → Header
-headerOf s = headerAfter (judge (headerTests s)) (headOf s)
+headerOf s = ruled (judge (headerTests s)) Refused (Whole (headOf s))
 
 -- how many bytes follow a header: coordinates, predictors and responses
 abbrev pub partsLen : ℕ → ℕ → ℕ
 partsLen n p = 8 * (n * (p + 3))
 
--- ---- what the code's parts ensure
-
-abbrev pub Sized : Header → Type 0
-Sized (Whole h) = (h .n ≤ 512) × (h .p ≤ 7)
-Sized (Refused r) = Unit
-
-pub record HeaderRead (r expected : Header) : Type 0 where
-  pub is : r ≡ expected
-  pub sized : Sized r
+-- the header where only its sizes are left to test
+unfoldable pub sizedHeader : List ℕ → Header
+sizedHeader s = ruled (judge (sizeTests (loadOf s 0) (loadOf s 8))) Refused (Whole (headOf s))

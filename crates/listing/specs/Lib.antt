@@ -1,4 +1,4 @@
 pub mod Headers
 pub mod Jobs
-pub mod Printed
 pub mod Numbers
+pub mod Printed

@@ -1,33 +1,58 @@
--- What `gwrprint` prints of the fit on numbers. Definitions only; crates/claims ties `printed` to them.
+-- Which inputs `gwrprint` refuses, and the text of the fit of the numbers that the others hold. Definitions only.
 use Prim.Native.Nat.{ℕ, zero, suc, _+_, _*_}
+use mathlib.Core.Bool.{Bool}
 use mathlib.Core.List.{List, [], _∷_, _++_, map}
-use lib.ListN.{take, drop, replicate}
+use lib.Dec.{ltb}
+use lib.ListN.{length, take, drop, replicate}
 use lib.Ieee.{Float}
 use Rattle.real.specs.Reals.{zero64}
 use Rattle.wire.specs.Wire.{bitsOf, reals}
-use Rattle.text.specs.Listing.{refusedLine, listing}
-use Rattle.refusal.specs.Numbers.{refusalNumber}
-use Rattle.plan.specs.declared.GwrOptions.{GwrOptions}
+use Rattle.text.specs.Listing.{listing}
+use Rattle.refusal.specs.declared.Refusal.{Refusal}
+use Rattle.refusal.specs.declared.Refusal.the-variants.{TooFewObservations}
+use Rattle.setup.specs.declared.GwrOptions.{GwrOptions}
+use Rattle.setup.specs.Data.{Data, dataOf}
+use Rattle.setup.specs.Shape.{setupOf}
+use Rattle.plan.specs.Checks.{valueTests, optionTests}
+use Rattle.sweep.specs.declared.Finish.the-variants.{Fitted, Failed}
 use Rattle.gwr.specs.declared.FitAnswer.{FitAnswer}
-use Rattle.gwr.specs.declared.FitAnswer.the-variants.{Fitted, Failed, Rejected}
+use Rattle.gwr.specs.declared.FitAnswer.the-variants.{Done, Rejected}
 use Rattle.gwr.specs.declared.Fit.{Fit}
-use Rattle.gwr.specs.Fit.{fitOf}
+use Rattle.gwr.specs.Fit.{gwrFit}
+use Rattle.calls.specs.Options.{optionsOf, named}
 use Rattle.listing.specs.declared.Head.{Head}
+use Rattle.listing.specs.Headers.{headOf, headerTests}
+use Rattle.listing.specs.Jobs.{placesEnd, predictorsEnd, cutTests, refusedText}
 
 -- 01: then coordinates, predictors, responses, 8 bytes each; `parts` is what stands behind the header
-module _ (h : Head) (parts : List ℕ) where
-  abbrev pub coordinatesIn : List Float
-  coordinatesIn = reals parts (2 * h .n)
+abbrev pub dataIn : Head → List ℕ → Data
+dataIn h parts =
+    dataOf (reals parts (2 * h .n)) (reals (drop (placesEnd (h .n)) parts) (h .n * h .p)) (reals (drop (predictorsEnd (h .n) (h .p)) parts) (h .n))
 
-  abbrev pub predictorsIn : List Float
-  predictorsIn = reals (drop (16 * h .n) parts) (h .n * h .p)
+-- the options that a header names; where 18 is owed, any
+abbrev pub optionsIn : Head → GwrOptions
+optionsIn h = named (optionsOf (h .kernel) (h .kind) (h .bandwidth))
 
-  abbrev pub responsesIn : List Float
-  responsesIn = reals (drop (16 * h .n + 8 * (h .n * h .p)) parts) (h .n)
+-- ---- which inputs are refused
 
-  -- their fit, with an output of n rows
-  abbrev pub fitIn : GwrOptions → Fit × List Float
-  fitIn o = fitOf coordinatesIn predictorsIn responsesIn (h .p) o (replicate (h .n * (h .p + 4)) zero64)
+-- 7, 8 to 10, 11, 12 of the numbers. 13 is not among them: the program lends room for 512 rows
+unfoldable pub dataTests : Head → List ℕ → List (Bool × Refusal)
+dataTests h parts =
+    let d = dataIn h parts in
+    (ltb (h .n) (h .p + 1), TooFewObservations) ∷ (valueTests d ++ optionTests (setupOf d (h .p) (optionsIn h)) d)
+
+-- 01: 'A short header gives 1; 18, n of 0 or over 512 and p over 7 are refused before reading on; then the first part cut short gives 2, 5 or 6', and then as the fit refuses
+unfoldable pub printTests : List ℕ → List (Bool × Refusal)
+printTests input =
+    let h = headOf input in
+    let parts = drop 40 input in
+    headerTests input ++ (cutTests (length parts) (h .n) (h .p) ++ dataTests h parts)
+
+-- ---- what is printed of the others
+
+-- the fit of the numbers that stand behind a header, with an output of n rows
+abbrev pub fitIn : Head → List ℕ → Fit × List Float
+fitIn h parts = gwrFit (dataIn h parts) (h .p) (optionsIn h) (replicate (h .n * (h .p + 4)) zero64)
 
 -- the first n rows of an output, of `width` numbers each
 unfoldable pub rowsIn : List Float → ℕ → ℕ → List (List Float)
@@ -36,6 +61,10 @@ rowsIn out width (suc n) = rowsIn out width n ++ (take width (drop (n * width) o
 
 -- 01: first line: refusal (0 none), bandwidth, AICc, solves; a row: location, then its output row; reals as hexadecimal bits; a refusal prints `fit` and its number only
 abbrev pub fitText : FitAnswer → List (List Float) → List ℕ
-fitText (Fitted v) rows = listing (bitsOf (v .bandwidth)) (bitsOf (v .aicc)) (v .solves) (map (map bitsOf) rows)
-fitText (Failed r v) rows = refusedLine (refusalNumber r)
-fitText (Rejected r) rows = refusedLine (refusalNumber r)
+fitText (Done (Fitted v)) rows = listing (bitsOf (v .bandwidth)) (bitsOf (v .aicc)) (v .solves) (map (map bitsOf) rows)
+fitText (Done (Failed r v)) rows = refusedText r
+fitText (Rejected r) rows = refusedText r
+
+-- the text of that fit
+abbrev pub textOfFit : Head → List ℕ → List ℕ
+textOfFit h parts = let f = fitIn h parts in fitText (f .0 .answer) (rowsIn (f .1) (h .p + 4) (h .n))

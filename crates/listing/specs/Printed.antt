@@ -2,21 +2,25 @@
 use Prim.Native.Nat.{ℕ}
 use mathlib.Core.List.{List, _++_}
 use lib.ListN.{take, drop}
-use Rattle.text.specs.Listing.{refusedLine}
-use Rattle.refusal.specs.Numbers.{refusalNumber}
+use Rattle.checks.specs.Judge.{judge, ruled}
 use Rattle.listing.specs.declared.Header.{Header}
 use Rattle.listing.specs.declared.Header.the-variants.{Whole, Refused}
-use Rattle.listing.specs.Headers.{headerOf, partsLen}
-use Rattle.listing.specs.Jobs.{jobText}
+use Rattle.listing.specs.Headers.{headOf, headerOf, partsLen}
+use Rattle.listing.specs.Jobs.{refusedText, jobText}
+use Rattle.listing.specs.Numbers.{printTests, textOfFit}
 
--- 01: a refusal prints `fit` and its number only
+-- 01: `gwrprint` reads a header of five numbers, 8 bytes each, then the parts; bytes left over are ignored. The first test that holds refuses; where none holds, the fit of the numbers is printed
+unfoldable pub printed : List ℕ → List ℕ
+printed input = ruled (judge (printTests input)) refusedText (textOfFit (headOf input) (drop 40 input))
+
+-- ---- what the code's parts give; proofs/Judged proves that `printed` is `printedParts`
+
 abbrev pub textOf : Header → List ℕ → List ℕ
 textOf (Whole h) parts = jobText h parts
-textOf (Refused r) parts = refusedLine (refusalNumber r)
+textOf (Refused r) parts = refusedText r
 
--- 01: `gwrprint` reads a header of five numbers, 8 bytes each, then the parts; bytes left over are ignored
-unfoldable pub printed : List ℕ → List ℕ
-printed input = textOf (headerOf input) (drop 40 input)
+unfoldable pub printedParts : List ℕ → List ℕ
+printedParts input = textOf (headerOf input) (drop 40 input)
 
 -- ---- what the program reads
 

@@ -3,13 +3,13 @@ ghost use mathlib.Core.Path.{_≡_};
 ghost use Prim.Native.Nat.{_+_, _*_, _≤_, _<_};
 ghost use lib.ListN.{length};
 ghost use Rattle.wire.specs.Wire.{loadOf};
-ghost use Rattle.text.specs.Listing.{Written};
-ghost use Rattle.plan.specs.Checks.{judge};
-ghost use Rattle.listing.specs.Headers.{headOf, sizeTests, headerAfter, headerOf, partsLen, HeaderRead};
+ghost use Rattle.text.specs.Listing.{WrittenText};
+ghost use Rattle.checks.specs.Judge.{judge};
+ghost use Rattle.listing.specs.Headers.{sizedHeader, headerOf, partsLen};
 ghost use Rattle.listing.specs.Jobs.{responsesEnd, cutTests, answerText, wholeText, jobText};
 ghost use Rattle.listing.specs.Printed.{printed, asked};
 use calls::Choice;
-use plan::Check;
+use checks::Check;
 use refusal::Refusal;
 
 // The five numbers of a whole header that is not refused.
@@ -27,9 +27,9 @@ pub enum Header {
 }
 
 // The numbers of a header, or the refusal of a size.
-fn read_sizes(s: &[u8]) -> Header
+fn sized_header(s: &[u8]) -> Header
     requires { ⌜ 40 ≤ length (now s) ⌝ }
-    ensures { λ r. ⌜ HeaderRead r (headerAfter (judge (sizeTests (loadOf (now (s .entry)) 0) (loadOf (now (s .entry)) 8))) (headOf (now (s .entry)))) ⌝ }
+    ensures { λ r. ⌜ r ≡ sizedHeader (now (s .entry)) ⌝ }
 {
     let n = wire::load(s, 0);
     let p = wire::load(s, 8);
@@ -53,16 +53,16 @@ fn read_sizes(s: &[u8]) -> Header
 }
 
 // The header's numbers, and what is refused before reading on: 1 for a short header, then 18, an n of 0 or over 512, a p over 7.
-pub fn read_header(s: &[u8]) -> Header
-    ensures { λ r. ⌜ HeaderRead r (headerOf (now (s .entry))) ⌝ }
+pub fn header_of(s: &[u8]) -> Header
+    ensures { λ r. ⌜ r ≡ headerOf (now (s .entry)) ⌝ }
 {
     if s.len() < 40 {
         return Header::Refused(Refusal::NoCoordinates);
     }
-    let choice = calls::read_options(wire::load(s, 16), wire::load(s, 24), wire::load(s, 32));
+    let choice = calls::options_of(wire::load(s, 16), wire::load(s, 24), wire::load(s, 32));
     match choice {
         Choice::Unknown => Header::Refused(Refusal::UnknownNumber),
-        Choice::Known(_) => read_sizes(s),
+        Choice::Known(_) => sized_header(s),
     }
 }
 
@@ -75,7 +75,7 @@ pub fn parts_len(n: usize, p: usize) -> usize
 }
 
 // The first part cut short gives 2, 5 or 6.
-fn check_parts(size: usize, n: usize, p: usize) -> Check
+fn check_cuts(size: usize, n: usize, p: usize) -> Check
     requires { ⌜ (n ≤ 512) × (p ≤ 7) ⌝ }
     ensures { λ r. ⌜ r ≡ judge (cutTests size n p) ⌝ }
 {
@@ -102,9 +102,9 @@ fn print_answer(
     width: usize,
     text: &mut [u8],
 ) -> usize
-    requires { ⌜ (number ≤ 21) × (n ≤ 512) × (width ≤ 11) × (8 * (n * width) ≤ length (now out)) × (24 ≤ length (now summary)) × (102400 ≤ length (now text)) ⌝ }
+    requires { ⌜ (number < 1000000) × (n ≤ 512) × (width ≤ 11) × (8 * (n * width) ≤ length (now out)) × (24 ≤ length (now summary)) × (102400 ≤ length (now text)) ⌝ }
     requires { ⌜ (number ≡ 0 → loadOf (now summary) 16 ≤ 52736) ⌝ }
-    ensures { λ r. ⌜ Written (now (text .entry)) 0 (answerText (number, (now (out .entry), now (summary .entry))) n width) (now (text .exit)) r ⌝ }
+    ensures { λ r. ⌜ WrittenText (now (text .entry)) 0 (answerText (number, (now (out .entry), now (summary .entry))) n width) (now (text .exit)) r ⌝ }
 {
     if 0 < number {
         return text::put_refused(text, number);
@@ -116,7 +116,7 @@ fn print_answer(
 fn print_whole(h: Head, parts: &[u8], out: &mut [u8], summary: &mut [u8], text: &mut [u8]) -> usize
     requires { ⌜ (h .n ≤ 512) × (h .p ≤ 7) × (responsesEnd (h .n) (h .p) ≤ length (now parts)) ⌝ }
     requires { ⌜ (45056 ≤ length (now out)) × (24 ≤ length (now summary)) × (102400 ≤ length (now text)) ⌝ }
-    ensures { λ r. ⌜ Written (now (text .entry)) 0 (wholeText h (now (parts .entry)) (now (out .entry)) (now (summary .entry))) (now (text .exit)) r ⌝ }
+    ensures { λ r. ⌜ WrittenText (now (text .entry)) 0 (wholeText h (now (parts .entry)) (now (out .entry)) (now (summary .entry))) (now (text .exit)) r ⌝ }
 {
     let n = h.n;
     let p = h.p;
@@ -140,9 +140,9 @@ fn print_whole(h: Head, parts: &[u8], out: &mut [u8], summary: &mut [u8], text: 
 // The text of a job whose parts follow its header; answers its length.
 pub fn print_job(h: Head, parts: &[u8], text: &mut [u8]) -> usize
     requires { ⌜ (h .n ≤ 512) × (h .p ≤ 7) × (102400 ≤ length (now text)) ⌝ }
-    ensures { λ r. ⌜ Written (now (text .entry)) 0 (jobText h (now (parts .entry))) (now (text .exit)) r ⌝ }
+    ensures { λ r. ⌜ WrittenText (now (text .entry)) 0 (jobText h (now (parts .entry))) (now (text .exit)) r ⌝ }
 {
-    let check = check_parts(parts.len(), h.n, h.p);
+    let check = check_cuts(parts.len(), h.n, h.p);
     match check {
         Check::Refused(r) => text::put_refused(text, r.number()),
         Check::Pass => {
@@ -156,9 +156,9 @@ pub fn print_job(h: Head, parts: &[u8], text: &mut [u8]) -> usize
 // All that is printed of an input, of any bytes and any length; answers the text's length.
 pub fn print_input(input: &[u8], text: &mut [u8]) -> usize
     requires { ⌜ 102400 ≤ length (now text) ⌝ }
-    ensures { λ r. ⌜ Written (now (text .entry)) 0 (printed (now (input .entry))) (now (text .exit)) r ⌝ }
+    ensures { λ r. ⌜ WrittenText (now (text .entry)) 0 (printed (now (input .entry))) (now (text .exit)) r ⌝ }
 {
-    let header = read_header(input);
+    let header = header_of(input);
     match header {
         Header::Refused(r) => text::put_refused(text, r.number()),
         Header::Whole(h) => print_job(h, &input[40..], text),
@@ -169,7 +169,7 @@ pub fn print_input(input: &[u8], text: &mut [u8]) -> usize
 pub fn asked_behind(head: &[u8]) -> usize
     ensures { λ r. ⌜ (r ≡ asked (headerOf (now (head .entry)))) × (r ≤ 40960) ⌝ }
 {
-    let header = read_header(head);
+    let header = header_of(head);
     match header {
         Header::Refused(_) => 0,
         Header::Whole(h) => parts_len(h.n, h.p),

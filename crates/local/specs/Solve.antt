@@ -1,20 +1,18 @@
--- One local solve: a fit at a location, and what it says there. Definitions only.
+-- One local solve: the weights seen from the location, the coefficients from them, and what these say there. Definitions only.
 use Prim.Native.Nat.{ℕ}
 use lib.Ieee.{Float}
-use Rattle.kernel.specs.declared.GwrKernel.{GwrKernel}
-use Rattle.neighbours.specs.declared.GwrBandwidth.{GwrBandwidth}
-use Rattle.neighbours.specs.Bandwidth.{bandwidthOf}
-use Rattle.normal.specs.Data.{Data}
-use Rattle.normal.specs.Weights.{weightsAt}
-use Rattle.local.specs.declared.Estimate.{Estimate}
-use Rattle.local.specs.declared.Estimate.the-variants.{Fitted, Failed}
-use Rattle.local.specs.declared.Estimated.{Estimated}
+use Rattle.setup.specs.declared.GwrBandwidth.{GwrBandwidth}
+use Rattle.setup.specs.declared.Setup.{Setup}
+use Rattle.setup.specs.Data.{Data}
+use Rattle.neighbours.specs.Bandwidth.{localBandwidthDistance}
+use Rattle.weights.specs.Weights.{weightsAt}
+use Rattle.estimate.specs.declared.Estimate.{Estimate}
+use Rattle.estimate.specs.declared.Estimate.the-variants.{Fitted, Failed}
+use Rattle.estimate.specs.Estimate.{fitCoefficients}
 use Rattle.local.specs.declared.Outcome.{Outcome}
 use Rattle.local.specs.declared.Outcome.the-variants.{Found, Refused}
 use Rattle.local.specs.declared.Solved.{Solved}
 use Rattle.local.specs.declared.Values.{Values}
-use Rattle.local.specs.Inner.{Row}
-use Rattle.local.specs.Estimate.{fitOf}
 use Rattle.local.specs.Evaluate.{valuesAt}
 
 -- the values, where the coefficients were found
@@ -22,23 +20,14 @@ unfoldable pub outcomeOf : Estimate → Values → Outcome
 outcomeOf Fitted v = Found v
 outcomeOf (Failed r) v = Refused r
 
--- a fit at location i by the predictors x and responses y, and what it says there, under the weights w and their sum
-unfoldable pub solvedUnder : Row → Row → Row → ℕ → ℕ → ℕ → Float → Solved
-solvedUnder x y w n p i sum =
-    let f = fitOf x y w n p in
-    let beta = f .0 .beta in
-    record { outcome = outcomeOf (f .0 .estimate) (valuesAt x y w n p i (f .1) beta sum); beta = beta }
-
--- the data, from the slices that are handed over
-abbrev pub dataOf : Row → Row → Row → ℕ → ℕ → Data
-dataOf coords x y n p = record { coords = coords; predictors = x; responses = y; n = n; p = p }
-
 -- `solve_local` at location i and the bandwidth distance b; its refusal of a weight sum not above zero never occurs
-unfoldable pub solveLocal : Data → GwrKernel → ℕ → Float → Solved
-solveLocal d k i b =
-    let s = weightsAt d k i b in
-    solvedUnder (d .predictors) (d .responses) (s .0) (d .n) (d .p) i (s .1)
+unfoldable pub solveLocal : Setup → Data → ℕ → Float → Solved
+solveLocal u d i b =
+    let s = weightsAt u d i b in
+    let f = fitCoefficients u d (s .0) in
+    let beta = f .0 .beta in
+    record { outcome = outcomeOf (f .0 .estimate) (valuesAt u d (s .0) i (f .1) beta (s .1)); beta = beta }
 
 -- `solve_one`: location i at its own bandwidth, `local_bandwidth_distance`
-unfoldable pub solveLocation : Data → GwrKernel → GwrBandwidth → ℕ → Solved
-solveLocation d k bandwidth i = solveLocal d k i (bandwidthOf (d .coords) (d .n) i bandwidth)
+unfoldable pub solveLocation : Setup → Data → GwrBandwidth → ℕ → Solved
+solveLocation u d bandwidth i = solveLocal u d i (localBandwidthDistance (d .coords) (u .n) i bandwidth)

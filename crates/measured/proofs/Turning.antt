@@ -6,14 +6,15 @@ use Prim.Native.Nat.{ℕ}
 use lib.ListN.{length}
 use lib.Ieee.{Float, binary64, ofBits}
 use Rattle.kernel.specs.declared.GwrKernel.{GwrKernel}
-use Rattle.neighbours.specs.declared.GwrBandwidth.the-variants.{Fixed}
-use Rattle.plan.specs.declared.GwrOptions.{GwrOptions}
+use Rattle.setup.specs.declared.GwrBandwidth.the-variants.{Fixed}
+use Rattle.setup.specs.declared.GwrOptions.{GwrOptions}
+use Rattle.setup.specs.Data.{Data}
+use Rattle.stepping.specs.declared.Job.{Job}
 use Rattle.job.specs.declared.Begun.{Begun}
-use Rattle.job.specs.declared.Job.{Job}
-use Rattle.job.specs.Turn.{beginOf}
+use Rattle.job.specs.Begin.{beginOf}
 use Rattle.measured.specs.Turns.{kernelBy, playOf, turnsOf}
 
-module _ (coords x y : List Float) (p number a turns : ℕ) (out : List Float) where
+module _ (d : Data) (p number a turns : ℕ) (out : List Float) where
   abbrev options : GwrKernel → GwrOptions
   options k = record { kernel = k; bandwidth = Fixed (ofBits binary64 0x4079_0000_0000_0000); «optimize_bandwidth» = false }
 
@@ -22,11 +23,11 @@ module _ (coords x y : List Float) (p number a turns : ℕ) (out : List Float) w
 
   pub turns-is : {k : GwrKernel} {b : Begun} {j : Job} {after : List Float}
       → k ≡ kernelBy number
-      → b ≡ beginOf coords x y p (options k) (length out)
-      → (j, after) ≡ playOf coords x y a turns (b .job, out)
-      → (j .solves, after) ≡ turnsOf coords x y p number a turns out
+      → b ≡ beginOf d p (options k) (length out)
+      → (j, after) ≡ playOf d a turns (b .job, out)
+      → (j .solves, after) ≡ turnsOf d p number a turns out
   unfolding turnsOf
   turns-is e f g =
       ap given g
-      ∙ ap (λ (b : Begun). given (playOf coords x y a turns (b .job, out))) f
-      ∙ ap (λ (k : GwrKernel). given (playOf coords x y a turns (beginOf coords x y p (options k) (length out) .job, out))) e
+      ∙ ap (λ (b : Begun). given (playOf d a turns (b .job, out))) f
+      ∙ ap (λ (k : GwrKernel). given (playOf d a turns (beginOf d p (options k) (length out) .job, out))) e

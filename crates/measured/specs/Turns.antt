@@ -8,10 +8,12 @@ use lib.Ieee.{Float, binary64, ofBits}
 use Rattle.real.specs.Fold.{range}
 use Rattle.kernel.specs.declared.GwrKernel.{GwrKernel}
 use Rattle.kernel.specs.declared.GwrKernel.the-variants.{Gaussian, Bisquare, Exponential}
-use Rattle.neighbours.specs.declared.GwrBandwidth.the-variants.{Fixed}
-use Rattle.plan.specs.declared.GwrOptions.{GwrOptions}
-use Rattle.job.specs.declared.Job.{Job}
-use Rattle.job.specs.Turn.{beginOf, turnOf}
+use Rattle.setup.specs.declared.GwrBandwidth.the-variants.{Fixed}
+use Rattle.setup.specs.declared.GwrOptions.{GwrOptions}
+use Rattle.setup.specs.Data.{Data}
+use Rattle.stepping.specs.declared.Job.{Job}
+use Rattle.job.specs.Begin.{beginOf}
+use Rattle.job.specs.Turn.{turnOf}
 
 -- 0 Gaussian, 1 Bisquare, any other the Exponential
 unfoldable pub kernelBy : ℕ → GwrKernel
@@ -22,15 +24,15 @@ abbrev pub optionsBy : ℕ → GwrOptions
 optionsBy k = record { kernel = kernelBy k; bandwidth = Fixed (ofBits binary64 0x4079_0000_0000_0000); «optimize_bandwidth» = false }
 
 -- one turn of the allowance a: the record and the output after it
-unfoldable pub turned : List Float → List Float → List Float → ℕ → ℕ → Job × List Float → Job × List Float
-turned coords x y a i s = let t = turnOf (s .0) coords x y (s .1) a in (t .0 .job, t .1)
+unfoldable pub turnBy : Data → ℕ → ℕ → Job × List Float → Job × List Float
+turnBy d a i s = let t = turnOf (s .0) d (s .1) a in (t .0 .job, t .1)
 
 -- so many of them
-unfoldable pub playOf : List Float → List Float → List Float → ℕ → ℕ → Job × List Float → Job × List Float
-playOf coords x y a turns s = range (turned coords x y a) 0 turns s
+unfoldable pub playOf : Data → ℕ → ℕ → Job × List Float → Job × List Float
+playOf d a turns s = range (turnBy d a) 0 turns s
 
 -- from beginning: the solves made, and the output
-unfoldable pub turnsOf : List Float → List Float → List Float → ℕ → ℕ → ℕ → ℕ → List Float → ℕ × List Float
-turnsOf coords x y p k a turns out =
-    let s = playOf coords x y a turns (beginOf coords x y p (optionsBy k) (length out) .job, out) in
+unfoldable pub turnsOf : Data → ℕ → ℕ → ℕ → ℕ → List Float → ℕ × List Float
+turnsOf d p k a turns out =
+    let s = playOf d a turns (beginOf d p (optionsBy k) (length out) .job, out) in
     (s .0 .solves, s .1)

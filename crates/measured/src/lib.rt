@@ -6,11 +6,12 @@ ghost use Prim.Native.Nat.{_≤_};
 ghost use lib.ListN.{length};
 ghost use Rattle.root.specs.Root.{root};
 ghost use Rattle.elementary.specs.Exp.{expv};
+ghost use Rattle.setup.specs.Data.{dataOf};
 ghost use Rattle.measured.specs.Turns.{kernelBy, playOf, turnsOf};
-use job::Job;
 use kernel::GwrKernel;
-use neighbours::GwrBandwidth;
-use plan::GwrOptions;
+use setup::GwrBandwidth;
+use setup::GwrOptions;
+use stepping::Job;
 
 // Each number becomes its square root.
 #[no_mangle]
@@ -87,7 +88,7 @@ fn play(
     allowance: u32,
     turns: u32,
 ) -> Job
-    ensures { λ r. ⌜ (r, now (out .exit)) ≡ playOf (now (coords .entry)) (now (x .entry)) (now (y .entry)) allowance turns (j, now (out .entry)) ⌝ }
+    ensures { λ r. ⌜ (r, now (out .exit)) ≡ playOf (dataOf (now (coords .entry)) (now (x .entry)) (now (y .entry))) allowance turns (j, now (out .entry)) ⌝ }
 {
     let mut k = j;
     for i in 0..turns {
@@ -109,7 +110,7 @@ pub extern "C" fn zescolumba_turns(
     allowance: u32,
     turns: u32,
 ) -> u64
-    ensures { λ r. ⌜ (r, now (out .exit)) ≡ turnsOf (now (coords .entry)) (now (x .entry)) (now (y .entry)) p kernel allowance turns (now (out .entry)) ⌝ }
+    ensures { λ r. ⌜ (r, now (out .exit)) ≡ turnsOf (dataOf (now (coords .entry)) (now (x .entry)) (now (y .entry))) p kernel allowance turns (now (out .entry)) ⌝ }
 {
     let options = GwrOptions {
         kernel: kernel_by(kernel),

@@ -15,11 +15,15 @@ use lib.Ieee.Bits.{is-true}
 use Rattle.real.specs.Fold.{turns, range}
 use Rattle.real.proofs.Values.{untrue}
 use Rattle.real.proofs.SignedOrder.{le-tr, nlt→le}
-use Rattle.kernel.proofs.RootOrder.{not-both, either}
-use Rattle.neighbours.specs.Insert.{placeOf, inserted}
-use Rattle.neighbours.specs.Walk.{between}
-use Rattle.neighbours.specs.Smallest.{joinOf, allOf, Ascending}
-use Rattle.neighbours.specs.Sums.{tallyStep, tally}
+use Rattle.root.proofs.Order.{not-both, either}
+use Rattle.selection.specs.Kth.{tallyStep, tally}
+use Rattle.selection.proofs.Tallies.{tally-turns}
+use Rattle.neighbours.specs.Insert.{rankOf, insert}
+use Rattle.neighbours.specs.declared.Own.{Own}
+use Rattle.neighbours.specs.declared.Own.the-variants.{At, Nobody}
+use Rattle.neighbours.specs.Walk.{isOwn}
+use Rattle.neighbours.specs.Smallest.{insertStep, allDistances, Ascending}
+use Rattle.neighbours.specs.Sums.{OwnBelow, others}
 use Rattle.neighbours.proofs.Smallest.{ins-is, number-le}
 
 unfoldable pub amount : (Float → Bool) → List Float → ℕ
@@ -40,9 +44,9 @@ module _ (p : Float → Bool) where
   unfolding amount
   amount-cons x l = refl
 
-  amount-inserted : (x : Float) (l : List Float) → amount p (inserted x l) ≡ cond (p x) (suc (amount p l)) (amount p l)
+  amount-inserted : (x : Float) (l : List Float) → amount p (insert x l) ≡ cond (p x) (suc (amount p l)) (amount p l)
   amount-inserted x l =
-      let q = placeOf x l (length l) in
+      let q = rankOf x l (length l) in
       let parts : amount p (take q l) + amount p (drop q l) ≡ amount p l = sym (amount-append (take q l) (drop q l)) ∙ ap (amount p) (take-append-drop q l) in
       ap (amount p) (ins-is x l q refl) ∙ amount-append (take q l) (x ∷ drop q l) ∙ ap (λ (c : ℕ). amount p (take q l) + c) (amount-cons x (drop q l)) ∙ go (p x) (amount p (take q l)) (amount p (drop q l)) (amount p l) parts
     where
@@ -51,26 +55,26 @@ module _ (p : Float → Bool) where
       go false a b s e = e
 
   -- all distances, by their pantries
-  module _ (coords : List Float) (i : ℕ) where
-    amount-joined : (j : ℕ) (l : List Float) (c : ℕ) → amount p l ≡ c → amount p (joinOf coords i j l) ≡ tallyStep (λ q. not (eqb i q) && p (between coords i q)) j c
-    unfolding joinOf tallyStep
-    amount-joined j l c e = go (eqb i j)
+  module _ (own : Own) (d : ℕ → Float) where
+    amount-joined : (j : ℕ) (l : List Float) (c : ℕ) → amount p l ≡ c → amount p (insertStep own d j l) ≡ tallyStep (λ q. not (isOwn own q) && p (d q)) j c
+    unfolding insertStep tallyStep
+    amount-joined j l c e = go (isOwn own j)
       where
         inner : (b : Bool) → cond b (suc (amount p l)) (amount p l) ≡ cond b (c + 1) c
         inner true = ap suc e ∙ sym (add-one c)
         inner false = e
 
-        go : (b : Bool) → amount p (cond b l (inserted (between coords i j) l)) ≡ cond (not b && p (between coords i j)) (c + 1) c
+        go : (b : Bool) → amount p (cond b l (insert (d j) l)) ≡ cond (not b && p (d j)) (c + 1) c
         go true = e
-        go false = amount-inserted (between coords i j) l ∙ inner (p (between coords i j))
+        go false = amount-inserted (d j) l ∙ inner (p (d j))
 
-    amount-walked : (n : ℕ) → amount p (turns (joinOf coords i) 0 n []) ≡ turns (tallyStep (λ q. not (eqb i q) && p (between coords i q))) 0 n 0
+    amount-walked : (n : ℕ) → amount p (turns (insertStep own d) 0 n []) ≡ turns (tallyStep (λ q. not (isOwn own q) && p (d q))) 0 n 0
     unfolding turns amount
     amount-walked zero = refl
-    amount-walked (suc n) = amount-joined (0 + n) (turns (joinOf coords i) 0 n []) _ (amount-walked n)
+    amount-walked (suc n) = amount-joined (0 + n) (turns (insertStep own d) 0 n []) _ (amount-walked n)
 
-    pub amount-all : (m : ℕ) → amount p (allOf coords i m) ≡ tally (λ q. not (eqb i q) && p (between coords i q)) m
-    unfolding allOf tally range
+    pub amount-all : (m : ℕ) → amount p (allDistances own d m) ≡ tally (λ q. not (isOwn own q) && p (d q)) m
+    unfolding allDistances tally range
     amount-all m = amount-walked (m - 0)
 
   -- none from place f on passes
@@ -116,62 +120,12 @@ unfolding amount
 amount-length [] = refl
 amount-length (x ∷ l) = ap suc (amount-length l)
 
--- ---- tallies
-tally-turns : (p : ℕ → Bool) (n : ℕ) → tally p n ≡ turns (tallyStep p) 0 n 0
-unfolding tally range
-tally-turns p n = let z : n - 0 ≡ n = omega arith in ap (λ (c : ℕ). turns (tallyStep p) 0 c 0) z
-
-module _ (p q : ℕ → Bool) where
-  turns-mono : (n m : ℕ) → n ≤ m → ((j : ℕ) → j < m → T (p j) → T (q j)) → turns (tallyStep p) 0 n 0 ≤ turns (tallyStep q) 0 n 0
-  unfolding turns tallyStep
-  turns-mono zero m k h = omega arith
-  turns-mono (suc n) m k h = go (p (0 + n)) (q (0 + n)) (h (0 + n) (omega arith)) (turns-mono n m (omega arith) h)
-    where
-      go : (b c : Bool) → (T b → T c) → turns (tallyStep p) 0 n 0 ≤ turns (tallyStep q) 0 n 0 → cond b (turns (tallyStep p) 0 n 0 + 1) (turns (tallyStep p) 0 n 0) ≤ cond c (turns (tallyStep q) 0 n 0 + 1) (turns (tallyStep q) 0 n 0)
-      go true true f r = omega arith
-      go true false f r = absurd (f tt)
-      go false true f r = omega arith
-      go false false f r = r
-
-  pub tally-mono : (n : ℕ) → ((j : ℕ) → j < n → T (p j) → T (q j)) → tally p n ≤ tally q n
-  unfolding tally range
-  tally-mono n h = turns-mono (n - 0) n (omega arith) h
-
-module _ (p : ℕ → Bool) where
-  turns-most : (n : ℕ) → turns (tallyStep p) 0 n 0 ≤ n
-  unfolding turns tallyStep
-  turns-most zero = omega arith
-  turns-most (suc n) = go (p (0 + n)) (turns-most n)
-    where
-      go : (b : Bool) → turns (tallyStep p) 0 n 0 ≤ n → cond b (turns (tallyStep p) 0 n 0 + 1) (turns (tallyStep p) 0 n 0) ≤ suc n
-      go true r = omega arith
-      go false r = omega arith
-
-  turns-every : (n : ℕ) → n ≤ turns (tallyStep p) 0 n 0 → (j : ℕ) → j < n → T (p j)
-  unfolding turns tallyStep
-  turns-every zero h j k = absurd (not-suc-le-zero k)
-  turns-every (suc n) h j k = go (p (0 + n)) refl (turns-every n) h
-    where
-      at-most-n : j ≤ n
-      at-most-n = omega arith
-
-      turned : j ≡ n → 0 + n ≡ j
-      turned s = omega arith
-
-      go : (b : Bool) → p (0 + n) ≡ b → (n ≤ turns (tallyStep p) 0 n 0 → (j : ℕ) → j < n → T (p j))
-          → suc n ≤ cond b (turns (tallyStep p) 0 n 0 + 1) (turns (tallyStep p) 0 n 0) → T (p j)
-      go true e again m =
-          elim (eq-or-lt-of-le at-most-n) [
-            | inl s ↦ subst (λ (c : ℕ). T (p c)) (turned s) (subst T (sym e) tt)
-            | inr g ↦ again (omega arith) j g
-          ]
-      go false e again m = absurd (not-suc-le-zero {n = 0} (omega (arith, turns-most n)))
-
-  -- a tally of all is of each
-  pub tally-every : (n : ℕ) → tally p n ≡ n → (j : ℕ) → j < n → T (p j)
-  tally-every n e j h = let s = tally-turns p n in turns-every n (omega arith) j h
-
 -- ---- the others
+nobody-far : (n : ℕ) → turns (tallyStep (λ q. true)) 0 n 0 ≡ n
+unfolding turns tallyStep
+nobody-far zero = refl
+nobody-far (suc n) = rw (nobody-far n) (add-one n)
+
 module _ (i : ℕ) where
   others-far : (n : ℕ) → n ≤ i → turns (tallyStep (λ q. not (eqb i q) && true)) 0 n 0 ≡ n
   unfolding turns tallyStep
@@ -180,23 +134,28 @@ module _ (i : ℕ) where
       let z : 0 + n ≡ n = omega arith in
       rw (z, ne-eqb i n (λ e. not-suc-le-zero {n = 0} (omega arith)), others-far n (omega arith)) (add-one n)
 
-  others : (n : ℕ) → i < n → turns (tallyStep (λ q. not (eqb i q) && true)) 0 n 0 ≡ n - 1
+  others-near : (n : ℕ) → i < n → turns (tallyStep (λ q. not (eqb i q) && true)) 0 n 0 ≡ n - 1
   unfolding turns tallyStep
-  others zero h = absurd (not-suc-le-zero h)
-  others (suc n) h =
+  others-near zero h = absurd (not-suc-le-zero h)
+  others-near (suc n) h =
       let z : 0 + n ≡ n = omega arith in
       let s : suc n - 1 ≡ n = omega arith in
       elim (eq-or-lt-of-le (at-most-n h)) [
         | inl e ↦ rw (z, eq-eqb i n e, s) (others-far n (omega arith))
-        | inr g ↦ rw (z, ne-eqb i n (λ e. not-suc-le-zero {n = 0} (omega arith)), s, others n g) (omega arith)
+        | inr g ↦ rw (z, ne-eqb i n (λ e. not-suc-le-zero {n = 0} (omega arith)), s, others-near n g) (omega arith)
       ]
     where
       at-most-n : i < suc n → i ≤ n
       at-most-n l = omega arith
 
-  -- of n pantries, n - 1 are not the location itself
-  pub all-length : (coords : List Float) (n : ℕ) → i < n → length (allOf coords i n) ≡ n - 1
-  all-length coords n h = sym (amount-length (allOf coords i n)) ∙ amount-all (λ x. true) coords i n ∙ tally-turns (λ q. not (eqb i q) && true) n ∙ others n h
+met-others : (own : Own) (n : ℕ) → OwnBelow n own → turns (tallyStep (λ q. not (isOwn own q) && true)) 0 n 0 ≡ others own n
+unfolding isOwn
+met-others (At i) n h = others-near i n h
+met-others Nobody n h = nobody-far n
+
+-- of n pantries, as many are met as are others
+pub all-length : (own : Own) (d : ℕ → Float) (n : ℕ) → OwnBelow n own → length (allDistances own d n) ≡ others own n
+all-length own d n h = sym (amount-length (allDistances own d n)) ∙ amount-all (λ x. true) own d n ∙ tally-turns (λ q. not (isOwn own q) && true) n ∙ met-others own n h
 
 -- ---- the q-th number of a list in order, by amounts
 module _ (l : List Float) (up : Ascending l) (f : ℕ) (h : f < length l) (r : Float) (n : T (not (isNan r))) where

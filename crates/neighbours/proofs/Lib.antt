@@ -1,7 +1,8 @@
 pub mod Inserts
+pub mod Owns
 pub mod Walks
-pub mod Roots
 pub mod Smallest
-pub mod Counts
+pub mod Summed
 pub mod Amounts
 pub mod Selects
+pub mod Bandwidths

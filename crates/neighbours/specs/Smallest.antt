@@ -2,33 +2,35 @@
 use mathlib.Core.Bool.{cond}
 use mathlib.Core.List.{List, [], _∷_}
 use Prim.Native.Nat.{ℕ, _-_, _≤_, _<_, min}
-use lib.Dec.{T, eqb}
+use lib.Dec.{T}
 use lib.ListN.{length, getD}
 use lib.Ieee.{Float, nan, le, lt}
 use Rattle.real.specs.Fold.{range}
-use Rattle.real.specs.Reals.{zero64, greater}
-use Rattle.neighbours.specs.Insert.{inserted}
-use Rattle.neighbours.specs.Walk.{between, eps64}
+use Rattle.real.specs.Reals.{zero64, greater, eps64}
+use Rattle.neighbours.specs.declared.Own.{Own}
+use Rattle.neighbours.specs.Insert.{insert}
+use Rattle.neighbours.specs.Walk.{isOwn}
 
--- the list with the distance to pantry j inserted, unless j is the location itself
-unfoldable pub joinOf : List Float → ℕ → ℕ → List Float → List Float
-unfolding inserted between
-joinOf coords i j l = cond (eqb i j) l (inserted (between coords i j) l)
+-- In all of these the distance to pantry j is d j, and the own pantry, if there is one, is left out.
+-- the list with the distance to pantry j inserted
+unfoldable pub insertStep : Own → (ℕ → Float) → ℕ → List Float → List Float
+unfolding isOwn insert
+insertStep own d j l = cond (isOwn own j) l (insert (d j) l)
 
--- all distances from location i to the others of the first m pantries, each inserted in turn
-unfoldable pub allOf : List Float → ℕ → ℕ → List Float
-unfolding range joinOf
-allOf coords i m = range (joinOf coords i) 0 m []
+-- all distances to the first m pantries, each inserted in turn
+unfoldable pub allDistances : Own → (ℕ → Float) → ℕ → List Float
+unfolding range insertStep
+allDistances own d m = range (insertStep own d) 0 m []
 
--- the list with the distance to pantry j in front, unless j is the location itself
-unfoldable pub frontOf : List Float → ℕ → ℕ → List Float → List Float
-unfolding between
-frontOf coords i j l = cond (eqb i j) l (between coords i j ∷ l)
+-- the list with the distance to pantry j in front
+unfoldable pub frontStep : Own → (ℕ → Float) → ℕ → List Float → List Float
+unfolding isOwn
+frontStep own d j l = cond (isOwn own j) l (d j ∷ l)
 
--- the distances from location i to the others of the first m pantries as they are met, the last one first
-unfoldable pub metOf : List Float → ℕ → ℕ → List Float
-unfolding range frontOf
-metOf coords i m = range (frontOf coords i) 0 m []
+-- the distances to the first m pantries as they are met, the last one first
+unfoldable pub metDistances : Own → (ℕ → Float) → ℕ → List Float
+unfolding range frontStep
+metDistances own d m = range (frontStep own d) 0 m []
 
 -- no number is below an earlier one, and none is NaN
 pub record Ascending (l : List Float) : Type 0 where
@@ -38,17 +40,17 @@ pub record Ascending (l : List Float) : Type 0 where
 abbrev pub kthOf : ℕ → List Float → Float
 kthOf k l = getD l (min k (length l) - 1) zero64
 
--- the greater of g and the distance to pantry j, unless j is the location itself
-unfoldable pub greatStep : List Float → ℕ → ℕ → Float → Float
-unfolding greater between
-greatStep coords i j g = cond (eqb i j) g (greater g (between coords i j))
+-- the greater of g and the distance to pantry j
+unfoldable pub greatStep : Own → (ℕ → Float) → ℕ → Float → Float
+unfolding isOwn greater
+greatStep own d j g = cond (isOwn own j) g (greater g (d j))
 
--- the greatest distance from location i to the others of the first m pantries, 0 where there is none
-unfoldable pub greatestOf : List Float → ℕ → ℕ → Float
+-- the greatest distance to the first m pantries, 0 where there is none
+unfoldable pub greatestMet : Own → (ℕ → Float) → ℕ → Float
 unfolding range greatStep
-greatestOf coords i m = range (greatStep coords i) 0 m zero64
+greatestMet own d m = range (greatStep own d) 0 m zero64
 
 -- the k-th smallest distance; if that is zero, or no other exists, the greatest of the distances and 2 ^ -52
-unfoldable pub kthNearest : List Float → ℕ → ℕ → ℕ → Float
-unfolding allOf greatestOf lt greater
-kthNearest coords n i k = let b = kthOf k (allOf coords i n) in cond (lt zero64 b) b (greater (greatestOf coords i n) eps64)
+unfoldable pub kthNearest : Own → (ℕ → Float) → ℕ → ℕ → Float
+unfolding allDistances greatestMet lt greater
+kthNearest own d n k = let b = kthOf k (allDistances own d n) in cond (lt zero64 b) b (greater (greatestMet own d n) eps64)

@@ -1,45 +1,37 @@
--- The sums of squares from a location, and which of them is the m-th smallest. Definitions only.
-use mathlib.Core.Bool.{Bool, false, cond, _&&_}
+-- The sums of squares from a place, in a lent buffer, and how many pantries are not its own. Definitions only.
+use mathlib.Core.Bool.{false}
 use mathlib.Core.List.{List}
-use Prim.Native.Nat.{ℕ, _+_, _*_}
-use lib.Dec.{T, leb, ltb}
+use Prim.Native.Nat.{ℕ, _+_, _-_, _*_, _<_}
 use lib.ListN.{getD, set}
-use lib.Ieee.{Float, nan, inf, le, lt}
+use lib.Ieee.{Float, nan, inf}
 use Rattle.real.specs.Fold.{range}
-use Rattle.real.specs.Reals.{zero64}
 use Rattle.kernel.specs.Weight.{squaresOf}
+use Rattle.neighbours.specs.declared.Own.{Own}
+use Rattle.neighbours.specs.declared.Own.the-variants.{At, Nobody}
 
--- the sum of squares from location i to pantry j, whose root is `between`
-unfoldable pub squaresTo : List Float → ℕ → ℕ → Float
-squaresTo coords i j = squaresOf (getD coords (2 * i) nan) (getD coords (2 * i + 1) nan) (getD coords (2 * j) nan) (getD coords (2 * j + 1) nan)
+-- the own pantry, if there is one, is among the first n
+abbrev pub OwnBelow : ℕ → Own → Type 0
+OwnBelow n (At i) = i < n
+OwnBelow n Nobody = Unit
+
+-- how many of n pantries are others
+abbrev pub others : Own → ℕ → ℕ
+others (At i) n = n - 1
+others Nobody n = n
+
+-- the sum of squares from the place (east, north) to pantry j, whose root is `distanceFrom`
+unfoldable pub squaresFrom : List Float → Float → Float → ℕ → Float
+squaresFrom coords east north j = squaresOf east north (getD coords (2 * j) nan) (getD coords (2 * j + 1) nan)
 
 -- the list with the sum of pantry j in place j
-unfoldable pub sumStep : List Float → ℕ → ℕ → List Float → List Float
-sumStep coords i j l = set l j (squaresTo coords i j)
+unfoldable pub sumStep : (ℕ → Float) → ℕ → List Float → List Float
+sumStep s j l = set l j (s j)
 
--- the list with the sums of n pantries in its first places, and infinity in the place of the location itself
-unfoldable pub sumsOf : List Float → ℕ → ℕ → List Float → List Float
-sumsOf coords n i l = set (range (sumStep coords i) 0 n l) i (inf false)
+-- the list with infinity in the place of the own pantry
+abbrev pub leftOut : Own → List Float → List Float
+leftOut (At i) l = set l i (inf false)
+leftOut Nobody l = l
 
--- one more where the test holds of j
-unfoldable pub tallyStep : (ℕ → Bool) → ℕ → ℕ → ℕ
-tallyStep p j c = cond (p j) (c + 1) c
-
--- of how many places below n the test holds
-unfoldable pub tally : (ℕ → Bool) → ℕ → ℕ
-tally p n = range (tallyStep p) 0 n 0
-
--- how many of the first n numbers are at most v, and how many are below it
-unfoldable pub atMost : List Float → ℕ → Float → ℕ
-atMost l n v = tally (λ j. le (getD l j nan) v) n
-
-unfoldable pub fewer : List Float → ℕ → Float → ℕ
-fewer l n v = tally (λ j. lt (getD l j nan) v) n
-
--- v is the m-th smallest of the first n numbers: m at least are at most v, and fewer than m are below it
-unfoldable pub isKth : List Float → ℕ → ℕ → Float → Bool
-isKth l n m v = leb m (atMost l n v) && ltb (fewer l n v) m
-
--- what selecting ensures of its result v: a number above zero is the m-th smallest
-pub record Selected (l : List Float) (n m : ℕ) (v : Float) : Type 0 where
-  pub is : T (lt zero64 v) → T (isKth l n m v)
+-- the list with the sums of n pantries in its first places, its own left out
+unfoldable pub sums : Own → (ℕ → Float) → ℕ → List Float → List Float
+sums own s n l = leftOut own (range (sumStep s) 0 n l)

@@ -1,2 +1,1 @@
-pub mod Design
-pub mod WeightSum
+pub mod DesignCells

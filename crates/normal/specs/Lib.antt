@@ -1,3 +1,3 @@
-pub mod Data
-pub mod Weights
-pub mod Normal
+pub mod Design
+pub mod Equations
+pub mod Augmented

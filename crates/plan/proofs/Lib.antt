@@ -1,3 +1,4 @@
-pub mod Finite
-pub mod Acceptance
+pub mod Above
+pub mod Meanings
+pub mod Accepted
 pub mod Ranges

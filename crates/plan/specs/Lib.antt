@@ -1,3 +1,4 @@
+pub mod Bounds
 pub mod Checks
+pub mod Conditions
 pub mod Plan
-pub mod Shape

@@ -4,3 +4,5 @@ pub mod Values
 pub mod Rounding
 pub mod Toward
 pub mod RoundedOnce
+pub mod Finite
+pub mod Closed

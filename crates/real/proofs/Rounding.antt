@@ -11,9 +11,9 @@ use lib.Ieee.Fits.{down-pos}
 use lib.Ieee.Exact.{HasValue}
 use lib.Ieee.Back.{round-whole}
 use lib.Ieee.Scale.{round-same}
-use Rattle.real.specs.Reals.{zero64, big64, roundWhole}
+use Rattle.real.specs.Reals.{zero64, half64, roundWhole}
 use Rattle.real.proofs.SignedOrder.{sle-of, of-sle}
-use Rattle.real.proofs.Values.{fits-parts, round-part, untrue}
+use Rattle.real.proofs.Values.{big64, fits-parts, round-part, untrue}
 
 -- ---- a number less its whole part is the rest, exactly
 
@@ -53,9 +53,6 @@ rest-value f s m (negsuc k) h =
     (round-part f false r (negsuc k) (lt-of-le-of-lt (le-trans l (le-of-eq (mul-one m))) (p .0)) (p .1) (lt-of-le-of-lt (le-trans (le-of-eq (mul-one r)) l) (p .2)))
 
 -- ---- a fraction is at least a half
-abbrev half64 : Float
-half64 = ofBits binary64 0x3FE0_0000_0000_0000
-
 pub same-truth : (a b : Bool) → (T a → T b) → (T b → T a) → a ≡ b
 same-truth true true h k = refl
 same-truth true false h k = absurd (h tt)

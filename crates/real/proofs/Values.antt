@@ -7,14 +7,15 @@ use native.Mathlib.Nat.{sub-self, mul-pos, lt-irrefl, zero-mul, one-mul, mul-one
 use native.Mathlib.Omega.{arith}
 use lib.IntN.{ℤ, pos, negsuc}
 use lib.Dec.{T, ltb, T-not, ltb→lt, lt→ltb, lit≤, eqb, eqb→eq, leb, leb→le}
-use lib.Ieee.{Float, nan, inf, fin, Format, binary64, up, down, round, sum, add, sub, neg, lt, eq, le, fits, ofBits, toBits, toUnsigned, prec, emax, low, size, hid, top}
+use lib.Ieee.{Float, nan, inf, fin, Format, binary64, up, down, round, sum, add, sub, neg, lt, eq, le, fits, ofBits, toBits, toUnsigned, nanBits, prec, emax, low, size, hid, top}
 use lib.Pow.{pow-pos, pow-add, pow-lt}
 use lib.Ieee.Fits.{down-pos, and-l, and-r, round-fits, neg-fits}
 use lib.Ieee.Exact.{HasValue, round-exact}
-use lib.Ieee.Bits.{ofBits-toBits}
+use lib.Ieee.Bits.{ofBits-toBits, nanBits-above}
 use lib.Ieee.Nearest.{div-same}
 use lib.Ieee.Scale.{finite}
-use Rattle.real.specs.Reals.{zero64, big64, magnitude}
+use borrow.Author.Tests.{le-ltb}
+use Rattle.real.specs.Reals.{zero64, magnitude}
 use Rattle.real.proofs.SignedOrder.{zero-of, toUnsigned-mono, lt→le, here-or-on, sle-of, of-sle}
 
 -- ---- x - x is zero where x is finite, and NaN elsewhere
@@ -38,6 +39,9 @@ less-itself (inf false) = refl
 less-itself (fin s m e) = ap (λ (z : Float). eq z zero64) (sum-itself binary64 s (m * up e * down e) (down e * down e) (mul-pos (down-pos e) (down-pos e)))
 
 -- ---- the whole part of a number below 2 ^ 32
+abbrev pub big64 : Float
+big64 = ofBits binary64 0x41F0_0000_0000_0000
+
 pub cut-small : (x : Float) → T (lt x big64) → toUnsigned 64 x ≤ 2 ^ 32
 unfolding toUnsigned lt ofBits
 cut-small nan h = absurd h
@@ -155,3 +159,7 @@ size-above (inf true) h = absurd h
 size-above (inf false) h = refl
 size-above (fin true m e) h = absurd (T-not (le (fin true m e) zero64) h (of-sle true false (m * up e * 1) (0 * down e) (omega arith)))
 size-above (fin false m e) h = refl
+
+-- ---- a bit pattern whose exponent's field is not all ones is a number's
+pub no-nan : (b : ℕ) → b < 2047 * 2 ^ 52 → T (not (nanBits binary64 b))
+no-nan b h = rw (nanBits-above binary64 b, le-ltb (2047 * 2 ^ 52) (b % 2 ^ 63) (omega arith)) tt

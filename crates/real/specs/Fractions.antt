@@ -12,32 +12,32 @@ pub data Fraction : Type 0 where
   fraction : Bool → ℕ → ℕ → Fraction
 
 -- -(a/c)
-abbrev pub flipped : Fraction → Fraction
-flipped (fraction s a c) = fraction (not s) a c
+abbrev pub fractionOpposite : Fraction → Fraction
+fractionOpposite (fraction s a c) = fraction (not s) a c
 
 -- a/c + b/c of these signs; a sum of nothing has a sign only where both have
-abbrev pub joined : Bool → ℕ → Bool → ℕ → ℕ → Fraction
-joined s a t b c = cond (Bool·beq s t) (fraction s (a + b) c) (cond (ltb a b) (fraction t (b - a) c) (fraction (s && ltb b a) (a - b) c))
+abbrev pub fractionJoined : Bool → ℕ → Bool → ℕ → ℕ → Fraction
+fractionJoined s a t b c = cond (Bool·beq s t) (fraction s (a + b) c) (cond (ltb a b) (fraction t (b - a) c) (fraction (s && ltb b a) (a - b) c))
 
 -- a/c + b/d, over c·d
-abbrev pub total : Fraction → Fraction → Fraction
-total (fraction s a c) (fraction t b d) = joined s (a * d) t (b * c) (c * d)
+abbrev pub fractionPlus : Fraction → Fraction → Fraction
+fractionPlus (fraction s a c) (fraction t b d) = fractionJoined s (a * d) t (b * c) (c * d)
 
 -- a/c - b/d, over c·d
-abbrev pub difference : Fraction → Fraction → Fraction
-difference (fraction s a c) (fraction t b d) = joined s (a * d) (not t) (b * c) (c * d)
+abbrev pub fractionMinus : Fraction → Fraction → Fraction
+fractionMinus (fraction s a c) (fraction t b d) = fractionJoined s (a * d) (not t) (b * c) (c * d)
 
 -- (a·b)/(c·d)
-abbrev pub product : Fraction → Fraction → Fraction
-product (fraction s a c) (fraction t b d) = fraction (unlike s t) (a * b) (c * d)
+abbrev pub fractionTimes : Fraction → Fraction → Fraction
+fractionTimes (fraction s a c) (fraction t b d) = fraction (unlike s t) (a * b) (c * d)
 
 -- (a·d)/(b·c)
-abbrev pub quotient : Fraction → Fraction → Fraction
-quotient (fraction s a c) (fraction t b d) = fraction (unlike s t) (a * d) (b * c)
+abbrev pub fractionOver : Fraction → Fraction → Fraction
+fractionOver (fraction s a c) (fraction t b d) = fraction (unlike s t) (a * d) (b * c)
 
 -- a/c < b/d, by a·d and b·c
-abbrev pub smaller : Fraction → Fraction → Bool
-smaller (fraction s a c) (fraction t b d) = below s (a * d) t (b * c)
+abbrev pub fractionLess : Fraction → Fraction → Bool
+fractionLess (fraction s a c) (fraction t b d) = below s (a * d) t (b * c)
 
 -- a finite number as a fraction
 abbrev pub fractionOf : Float → Fraction

@@ -1,3 +1,6 @@
 pub mod Fold
 pub mod Reals
 pub mod Fractions
+pub mod Finite
+pub mod Arithmetic
+pub mod Matrix

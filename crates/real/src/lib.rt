@@ -1,16 +1,16 @@
 // Helpers on f64 that the Rust takes from its library, each with the meaning it has there.
 ghost use mathlib.Core.Path.{_≡_};
-ghost use mathlib.Core.Bool.{false};
-ghost use Prim.Native.Nat.{_<_, _≤_, _^_};
+ghost use mathlib.Core.Bool.{false, _&&_};
+ghost use Prim.Native.Nat.{_<_, _≤_, _^_, min, max};
 ghost use lib.Dec.{T};
-ghost use lib.IntN.{pos};
-ghost use lib.Ieee.{inf, binary64, ofInt, lt};
+ghost use lib.Ieee.{binary64, lt, ofBits};
 ghost use lib.Ieee.Scale.{finite};
-ghost use Rattle.real.specs.Reals.{magnitude, greater, lesser, clampUnit, clampCount, roundWhole, roundInto, Into, zero64, big64};
+ghost use Rattle.real.specs.Finite.{allFinite};
+ghost use Rattle.real.specs.Reals.{magnitude, greater, lesser, clampUnit, clampCount, roundWhole, roundInto, Into, zero64, inf64, fromCount};
 
 // Plus infinity.
 pub fn infinity() -> f64
-    ensures { λ r. ⌜ r ≡ inf false ⌝ }
+    ensures { λ r. ⌜ r ≡ inf64 ⌝ }
 {
     f64::from_bits(0x7FF0_0000_0000_0000)
 }
@@ -18,7 +18,7 @@ pub fn infinity() -> f64
 // A count as a real: exact.
 pub fn from_count(n: usize) -> f64
     requires { ⌜ n < 2 ^ 32 ⌝ }
-    ensures { λ r. ⌜ r ≡ ofInt binary64 (pos n) ⌝ }
+    ensures { λ r. ⌜ r ≡ fromCount n ⌝ }
 {
     (n as u32) as f64
 }
@@ -28,6 +28,24 @@ pub fn is_finite(x: f64) -> bool
     ensures { λ r. ⌜ r ≡ finite x ⌝ }
 {
     x - x == 0.0
+}
+
+pub fn both(a: bool, b: bool) -> bool
+    ensures { λ r. ⌜ r ≡ (a && b) ⌝ }
+{
+    if a { b } else { false }
+}
+
+// Whether every number of s is finite.
+pub fn all_finite(s: &[f64]) -> bool
+    ensures { λ r. ⌜ r ≡ allFinite (now (s .entry)) ⌝ }
+{
+    let mut good = true;
+    for i in 0..s.len() {
+        let here = is_finite(s[i]);
+        good = both(good, here);
+    }
+    good
 }
 
 // The size of x: Rust's `f64::abs`. Where x <= 0.0 the difference is exact, and it is +0 for a zero of either sign.
@@ -82,7 +100,7 @@ fn clamp_count(n: u64, lo: usize, hi: usize) -> usize
 // The whole number nearest to x, halves up, for x above 0 and below 2^32: there x less its whole part is exact.
 fn rounded(x: f64) -> u64
     requires { ⌜ T (lt zero64 x) ⌝ }
-    requires { ⌜ T (lt x big64) ⌝ }
+    requires { ⌜ T (lt x (ofBits binary64 0x41F0_0000_0000_0000)) ⌝ }
     ensures { λ r. ⌜ r ≡ roundWhole x ⌝ }
 {
     let t = std::num::truncating_f64_to_u64(x);
@@ -103,4 +121,18 @@ pub fn round_into(x: f64, lo: usize, hi: usize) -> usize
         return hi;
     }
     lo
+}
+
+// The greater of two counts.
+pub fn max_count(a: usize, b: usize) -> usize
+    ensures { λ r. ⌜ r ≡ max a b ⌝ }
+{
+    if b < a { a } else { b }
+}
+
+// The lesser of two counts.
+pub fn min_count(a: usize, b: usize) -> usize
+    ensures { λ r. ⌜ r ≡ min a b ⌝ }
+{
+    if a < b { a } else { b }
 }

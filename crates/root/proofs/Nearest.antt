@@ -5,9 +5,9 @@ use Prim.Native.Nat.{ℕ, zero, suc, _+_, _-_, _*_, _/_, _%_, _^_, _≤_, _<_, z
 use native.Mathlib.Nat.{mul-assoc, mul-comm, mul-left-comm, mul-one, one-mul, zero-mul, add-mul, mul-right-comm, mul-mul-mul-comm, mul-pos, mul-le-mul, mul-le-mul-right, mul-le-mul-left, mul-lt-mul-of-pos-left, mul-lt-mul-of-pos-right, lt-of-mul-lt-mul-right, lt-of-lt-of-le, lt-of-le-of-lt, lt-of-not-le, not-le-of-lt, le-trans, le-of-eq, le-of-lt, mul-add, mul-div-cancel, not-suc-le-zero}
 use native.Mathlib.Decide.{decLe}
 use native.Mathlib.Omega.{arith}
-use lib.Dec.{T, leb, ltb, eqb, leb→le, ltb→lt}
+use lib.Dec.{T, leb, ltb, eqb, leb→le, ltb→lt, lt→ltb}
 use lib.Count.{leadingZeros}
-use lib.IntN.{ℤ, pos, negsuc}
+use lib.IntN.{pos, negsuc}
 use lib.Pow.{pow-add, pow-pos, pow-mono, pow-lt, shl-lt}
 use lib.Ieee.{Float, nan, inf, fin, binary64, up, down, lt, le, size, units, ofBits, toBits, fits}
 use lib.Ieee.Digits.{back}
@@ -17,11 +17,16 @@ use lib.Ieee.Fits.{down-pos, and-l, and-r}
 use lib.Ieee.Bits.{ofBits-fits, is-true}
 use lib.Ieee.Positive.{num, den, den-pos, positive, positive-of-value, value→cross}
 use borrow.Author.Tests.{eq-eqb, ne-eqb}
-use Rattle.root.specs.Root.{root, rootUnits, inUnits, nearestRoot, unitsOfBits, zero64, inf64, Parted, Halved}
-use Rattle.root.specs.Nearest.{unsigned, MiddleBelow, MiddleAbove, leastNormal, NearestRoot}
-use Rattle.root.proofs.Powers.{four-pow, subnormal, parted, normal-size, normal-value, when-odd, when-even}
+use Rattle.real.specs.Reals.{zero64, inf64, leastNormal}
+use Rattle.real.specs.Fractions.{fraction, fractionOf, fractionLess}
+use Rattle.real.proofs.Values.{untrue}
+use Rattle.real.proofs.SignedOrder.{nonneg}
+use Rattle.root.specs.Root.{root, rootUnits, inUnits, nearestRoot}
+use Rattle.root.specs.Parts.{unitsOfBits}
+use Rattle.root.specs.Nearest.{unsigned, sumSquared, fourfold, NearestRoot}
+use Rattle.root.proofs.Powers.{PartedUnits, four-pow, subnormal, parted, normal-size, normal-value, by-length}
 use Rattle.root.proofs.Squares.{Close, nearest-close, nearest-bounds}
-use Rattle.root.proofs.Patterns.{Pattern, pattern, assembled, the-root-units}
+use Rattle.root.proofs.Patterns.{pattern, assembled, the-root-units}
 
 -- ---- small laws
 pow-back : (i j : ℕ) → 2 ^ i < 2 ^ j → i < j
@@ -195,14 +200,10 @@ module _ (a p b q n k U : ℕ) (A : a * U ≡ n * p) (B : b * U ≡ k * q) where
 record Parts (n : ℕ) : Type 0 where
   a : ℕ
   h : ℕ
-  parts : Parted n a h
+  parts : PartedUnits n a h
 
 parts-of : (n sig len : ℕ) → size n ≡ len → len < 2099 → n * 2 ^ 106 ≡ sig * 2 ^ (len + 53) → 2 ^ 52 ≤ sig → sig < 2 ^ 53 → Parts n
-parts-of n sig len e l v lo hi = go (decLe 1 (len % 2))
-  where
-    go : Dec (1 ≤ len % 2) → Parts n
-    go (yes y) = record { a = sig; h = (len + 1) / 2; parts = parted n e l v (when-odd sig len (omega arith) lo hi) }
-    go (no f) = record { a = sig * 2; h = (len + 1) / 2; parts = parted n e l v (when-even sig len (λ o. f (omega arith)) lo hi) }
+parts-of n sig len e l v lo hi = record { a = sig * (2 - len % 2); h = (len + 1) / 2; parts = parted n e v (by-length sig len l lo hi) }
 
 parts-of-bits : (b : ℕ) → 0 < b → b < 2047 * 2 ^ 52 → Parts (unitsOfBits b)
 unfolding unitsOfBits
@@ -251,7 +252,42 @@ positive-unsigned (inf s) p = absurd p
 positive-unsigned (fin true m e) p = absurd p
 positive-unsigned (fin false m e) p = tt
 
-module _ (x : Float) (n a h : ℕ) (value : HasValue x false n (2 ^ 1074)) (d : Parted n a h) where
+-- ---- the middle of two numbers and a root, as fractions and as whole numbers
+abbrev pub sumNum : Float → Float → ℕ
+sumNum x y = num x * den y + num y * den x
+
+abbrev MiddleBelow : Float → Float → Float → Type 0
+MiddleBelow x y z = sumNum x y * sumNum x y * den z < 4 * num z * (den x * den y * (den x * den y))
+
+abbrev MiddleAbove : Float → Float → Float → Type 0
+MiddleAbove x y z = 4 * num z * (den x * den y * (den x * den y)) < sumNum x y * sumNum x y * den z
+
+fraction-of : (x : Float) → T (unsigned x) → fractionOf x ≡ fraction false (num x) (den x)
+fraction-of nan p = absurd p
+fraction-of (inf s) p = absurd p
+fraction-of (fin true m e) p = absurd p
+fraction-of (fin false m e) p = refl
+
+module _ (x y z : Float) (p : T (unsigned x)) (q : T (unsigned y)) (r : T (unsigned z)) where
+  below-is : fractionLess (sumSquared x y) (fourfold z) ≡ ltb (sumNum x y * sumNum x y * den z) (4 * num z * (den x * den y * (den x * den y)))
+  below-is = rw (fraction-of x p, fraction-of y q, fraction-of z r, one-mul (den z))
+
+  above-is : fractionLess (fourfold z) (sumSquared x y) ≡ ltb (4 * num z * (den x * den y * (den x * den y))) (sumNum x y * sumNum x y * den z)
+  above-is = rw (fraction-of x p, fraction-of y q, fraction-of z r, one-mul (den z))
+
+  pub middle-low : T (fractionLess (sumSquared x y) (fourfold z)) → MiddleBelow x y z
+  middle-low t = ltb→lt _ _ (subst T below-is t)
+
+  pub middle-high : T (fractionLess (fourfold z) (sumSquared x y)) → MiddleAbove x y z
+  middle-high t = ltb→lt _ _ (subst T above-is t)
+
+  low-middle : MiddleBelow x y z → T (fractionLess (sumSquared x y) (fourfold z))
+  low-middle h = subst T (sym below-is) (lt→ltb _ _ h)
+
+  high-middle : MiddleAbove x y z → T (fractionLess (fourfold z) (sumSquared x y))
+  high-middle h = subst T (sym above-is) (lt→ltb _ _ h)
+
+module _ (x : Float) (n a h : ℕ) (value : HasValue x false n (2 ^ 1074)) (xp : T (unsigned x)) (d : PartedUnits n a h) where
   abbrev digits-of : ℕ
   digits-of = nearestRoot (a * 2 ^ 52)
 
@@ -282,6 +318,7 @@ module _ (x : Float) (n a h : ℕ) (value : HasValue x false n (2 ^ 1074)) (d : 
 
   -- 2 ^ 1074 ≤ digits * 2 ^ k * 2 ^ 1022
   answer-normal : T (le leastNormal answer)
+  unfolding ofBits
   answer-normal =
       le-of-values leastNormal answer 1 (2 ^ 1022) (digits-of * 2 ^ (h + 484)) (2 ^ 1074) (pow-pos 1022) (pow-pos 1074) (refl, refl) answer-value
       (normal-scale 52 1022 digits-of (2 ^ (h + 484)) (bounds .0) (pow-pos (h + 484)))
@@ -321,7 +358,7 @@ module _ (x : Float) (n a h : ℕ) (value : HasValue x false n (2 ^ 1074)) (d : 
   units-nearest : NearestRoot x (rootUnits n)
   units-nearest =
       subst (λ (z : Float). NearestRoot x z) (sym (the-root-units n a h d))
-      (record { held = answer-held; is-positive = answer-positive; is-normal = answer-normal; below = middle-below; above = middle-above })
+      (record { held = answer-held; is-positive = answer-positive; is-normal = answer-normal; below = λ y F p l. low-middle answer y x (positive-unsigned answer answer-positive) p xp (middle-below y F p l); above = λ y F p l. high-middle answer y x (positive-unsigned answer answer-positive) p xp (middle-above y F p l) })
 
 -- ---- the definition at a positive finite number
 wrong : {A : Type 0} → false ≡ true → A
@@ -346,14 +383,11 @@ own-units x F p q =
     let w = whole x F (above-unsigned x p q) in
     subst (λ (z : ℕ). HasValue x false z (2 ^ 1074)) (sym (value-units x (w .digits * 2 ^ (w .zeros)) (w .value))) (w .value)
 
-untrue : (b : Bool) → (T b → ⊥) → b ≡ false
-untrue true f = absurd (f tt)
-untrue false f = refl
-
-not-below : (x : Float) → T (unsigned x) → lt x zero64 ≡ false
-unfolding lt ofBits
-not-below nan p = absurd p
-not-below (inf s) p = absurd p
+pub not-below : (x : Float) → T (nonneg x) → lt x (fin false 0 (pos 0)) ≡ false
+unfolding lt
+not-below nan p = refl
+not-below (inf true) p = absurd p
+not-below (inf false) p = refl
 not-below (fin true m e) p = absurd p
 not-below (fin false m e) p =
     untrue (ltb (m * up e * 1) (0 * down e))
@@ -383,7 +417,7 @@ root-nearest x F p q =
     let Q = is-true (lt x inf64) q in
     let b = pattern x F P Q in
     let s = subst Parts (b .units-are) (parts-of-bits (toBits binary64 x) (b .above) (b .below)) in
-    subst (λ (z : Float). NearestRoot x z) (sym (root-is x P Q)) (units-nearest x (inUnits x) (s .a) (s .h) (own-units x F P Q) (s .parts))
+    subst (λ (z : Float). NearestRoot x z) (sym (root-is x P Q)) (units-nearest x (inUnits x) (s .a) (s .h) (own-units x F P Q) (above-unsigned x P Q) (s .parts))
 
 -- ---- the others: a negative number's root is NaN, minus infinity's too; NaN, plus infinity and the zeros of either sign are their own
 pub root-of-negative : (x : Float) → T (lt x zero64) → root x ≡ nan

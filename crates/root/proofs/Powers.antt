@@ -1,7 +1,7 @@
 -- Powers of two in the parts of a number: its length, and half of it.
 use mathlib.Core.Path.{_≡_, refl, sym, ap, _∙_, subst}
 use Prim.Native.Nat.{ℕ, zero, suc, _+_, _-_, _*_, _/_, _%_, _^_, _≤_, _<_}
-use native.Mathlib.Nat.{mul-assoc, mul-comm, mul-one, pow-suc, pow-zero, lt-irrefl, lt-of-lt-of-le, le-trans, lt-of-not-le, add-suc, suc-add, le-antisymm, le-of-eq, mul-le-mul-right, mod-eq-of-lt}
+use native.Mathlib.Nat.{mul-assoc, mul-one, pow-suc, lt-irrefl, lt-of-lt-of-le, le-trans, lt-of-not-le, add-suc, suc-add, le-antisymm, le-of-eq, mul-le-mul-right, mod-eq-of-lt}
 use native.Mathlib.Decide.{decLe}
 use native.Mathlib.Omega.{arith}
 use lib.Pow.{pow-add, pow-mono, shl-lt}
@@ -9,7 +9,7 @@ use lib.Dec.{lit≤}
 use lib.Count.{leadingZeros, leading-top}
 use lib.Ieee.{size}
 use lib.Ieee.Digits.{size-lt, size-le}
-use Rattle.root.specs.Root.{Halved, Parted}
+use Rattle.root.specs.Parts.{Parted}
 
 pub four-pow : (h : ℕ) → 4 ^ h ≡ 2 ^ (h + h)
 four-pow zero = refl
@@ -39,29 +39,36 @@ even-length sig len o =
     let e : len + 53 ≡ 53 + (h + h) = omega arith in
     rw (e, four-pow, pow-add 2 53 (h + h)) (sym (mul-assoc sig (2 ^ 53) (2 ^ (h + h))) ∙ ap (λ (x : ℕ). x * 2 ^ (h + h)) (sym (mul-assoc sig 2 (2 ^ 52))))
 
-pub when-odd : (sig len : ℕ) → len % 2 ≡ 1 → 2 ^ 52 ≤ sig → sig < 2 ^ 53 → Halved sig len sig ((len + 1) / 2)
-when-odd sig len o a b = record { half = refl; value = odd-length sig len o; low = a; high = omega arith }
+-- the parts of n, and those of a number of len digits, the first 53 of which are sig
+abbrev pub PartedUnits : ℕ → ℕ → ℕ → Type 0
+PartedUnits n a h = Parted (n * 2 ^ 106) (size n) a h
 
-pub when-even : (sig len : ℕ) → (len % 2 ≡ 1 → ⊥) → 2 ^ 52 ≤ sig → sig < 2 ^ 53 → Halved sig len (sig * 2) ((len + 1) / 2)
-when-even sig len o a b = record { half = refl; value = even-length sig len o; low = omega arith; high = omega arith }
+abbrev pub PartedDigits : ℕ → ℕ → ℕ → ℕ → Type 0
+PartedDigits sig len a h = Parted (sig * 2 ^ (len + 53)) len a h
+
+when-odd : (sig len : ℕ) → len < 2099 → len % 2 ≡ 1 → 2 ^ 52 ≤ sig → sig < 2 ^ 53 → PartedDigits sig len sig ((len + 1) / 2)
+when-odd sig len s o a b = record { half = refl; value = odd-length sig len o; low = a; high = omega arith; short = omega arith }
+
+when-even : (sig len : ℕ) → len < 2099 → (len % 2 ≡ 1 → ⊥) → 2 ^ 52 ≤ sig → sig < 2 ^ 53 → PartedDigits sig len (sig * 2) ((len + 1) / 2)
+when-even sig len s o a b = record { half = refl; value = even-length sig len o; low = omega arith; high = omega arith; short = omega arith }
 
 -- one or two times the digits, by the length
-pub by-length : (sig len : ℕ) → 2 ^ 52 ≤ sig → sig < 2 ^ 53 → Halved sig len (sig * (2 - len % 2)) ((len + 1) / 2)
-by-length sig len a b = go (decLe 1 (len % 2))
+pub by-length : (sig len : ℕ) → len < 2099 → 2 ^ 52 ≤ sig → sig < 2 ^ 53 → PartedDigits sig len (sig * (2 - len % 2)) ((len + 1) / 2)
+by-length sig len s a b = go (decLe 1 (len % 2))
   where
-    go : Dec (1 ≤ len % 2) → Halved sig len (sig * (2 - len % 2)) ((len + 1) / 2)
+    go : Dec (1 ≤ len % 2) → PartedDigits sig len (sig * (2 - len % 2)) ((len + 1) / 2)
     go (yes y) =
         let o : len % 2 ≡ 1 = omega arith in
         let e : sig * (2 - len % 2) ≡ sig = ap (λ (k : ℕ). sig * (2 - k)) o ∙ mul-one sig in
-        rw e (when-odd sig len o a b)
+        rw e (when-odd sig len s o a b)
     go (no f) =
         let o : len % 2 ≡ 0 = omega arith in
         let e : sig * (2 - len % 2) ≡ sig * 2 = ap (λ (k : ℕ). sig * (2 - k)) o in
-        rw e (when-even sig len (λ w. f (omega arith)) a b)
+        rw e (when-even sig len s (λ w. f (omega arith)) a b)
 
 -- what is split, by its length and its first 53 digits
-pub parted : {sig len a h : ℕ} (n : ℕ) → size n ≡ len → len < 2099 → n * 2 ^ 106 ≡ sig * 2 ^ (len + 53) → Halved sig len a h → Parted n a h
-parted n e l v d = record { half = rw e (d .half); value = v ∙ d .value; low = d .low; high = d .high; short = omega (arith, d .half) }
+pub parted : {v len a h : ℕ} (n : ℕ) → size n ≡ len → n * 2 ^ 106 ≡ v → Parted v len a h → PartedUnits n a h
+parted n e v d = record { half = rw e (d .half); value = v ∙ d .value; low = d .low; high = d .high; short = d .short }
 
 -- ---- a subnormal: its leading zeros say how far it is shifted
 pub record Shifted (b z : ℕ) : Type 0 where

@@ -1,16 +1,16 @@
 -- Whole square roots: one turn of the digit loop, the definition's root, and that there is one root.
 use mathlib.Core.Path.{_≡_, refl, sym, ap, _∙_, subst}
 use mathlib.Core.Bool.{Bool, true, false, not, cond}
-use Prim.Native.Nat.{ℕ, zero, suc, _+_, _-_, _*_, _/_, _%_, _^_, _≤_, _<_, suc-le-suc, compare, Ordering, Ordering·lt, Ordering·eq, Ordering·gt, compare·zero-zero, compare·zero-suc, compare·suc-zero, compare·suc-suc}
-use native.Mathlib.Nat.{mul-add, add-mul, mul-comm, mul-assoc, add-assoc, add-comm, add-left-comm, mul-left-comm, mul-le-mul, pow-suc, pow-le-pow-right, lt-of-lt-of-le, le-trans, not-suc-le-zero, le-of-suc-le-suc, lt-irrefl, lt-of-le-of-lt, lt-of-not-le, not-le-of-lt, mul-mul-mul-comm, mul-right-comm, mul-le-mul-right, le-of-lt, mul-lt-mul-of-pos-left}
+use Prim.Native.Nat.{ℕ, zero, suc, _+_, _-_, _*_, _/_, _%_, _^_, _≤_, _<_, compare, Ordering·lt, Ordering·gt, compare·zero-suc, compare·suc-zero, compare·suc-suc}
+use native.Mathlib.Nat.{mul-add, add-mul, mul-comm, mul-assoc, mul-left-comm, mul-le-mul, pow-suc, lt-of-lt-of-le, le-trans, not-suc-le-zero, le-of-suc-le-suc, lt-irrefl, lt-of-le-of-lt, lt-of-not-le, mul-mul-mul-comm, mul-right-comm, mul-le-mul-right, le-of-lt, mul-lt-mul-of-pos-left}
 use native.Mathlib.Numerals.{add-one}
 use native.Mathlib.Decide.{decLe}
 use native.Mathlib.Omega.{arith}
 use borrow.Author.Tests.{lt-ltb, le-ltb}
 use lib.Dec.{T, leb, leb→le, nleb→lt}
 use lib.Pow.{pow-mono, pow-add, pow-pos}
-use lib.Ieee.{nearest}
-use Rattle.root.specs.Root.{Rooted, Parted, digit, isqrt, nearestRoot, oneIfBelow}
+use Rattle.root.specs.Root.{rootDigit, isqrt, nearestRoot}
+use Rattle.root.specs.Parts.{Rooted, Parted, oneIfBelow}
 
 -- ---- the digit loop: after i turns q has i digits, and with what is left it makes the first i pairs of digits of a
 pub record Digits (a q rem c i : ℕ) : Type 0 where
@@ -85,8 +85,8 @@ sq-next r = mul-add (r + 1) r 1 ∙ omega (arith, add-mul r 1 r)
 sq-twice : (r : ℕ) → 2 * r * (2 * r) ≡ 4 * (r * r)
 sq-twice r = simp (mul-assoc, mul-comm, mul-left-comm) (omega arith)
 
-digit-is : (n r : ℕ) → Is (n / 4) r → Is n (digit n r)
-unfolding digit
+digit-is : (n r : ℕ) → Is (n / 4) r → Is n (rootDigit n r)
+unfolding rootDigit
 digit-is n r p = go (leb ((2 * r + 1) * (2 * r + 1)) n) (leb→le _ n) (nleb→lt _ n)
   where
     go : (b : Bool) → (T b → (2 * r + 1) * (2 * r + 1) ≤ n) → (T (not b) → n < (2 * r + 1) * (2 * r + 1)) → Is n (cond b (2 * r + 1) (2 * r))
@@ -258,8 +258,8 @@ chosen a g r u d high p e up down low top = go (decLe r (2 ^ 56 + g)) (decLe (r 
         let s : g + u - d ≡ g + 1 = omega arith in
         s ∙ settled-above a g r high e l top
 
-pub held : {a h q : ℕ} {n : ℕ} → Parted n a h → q ≡ nearestRoot (a * 2 ^ 52) → (2 ^ 52 ≤ q) × (q < 2 ^ 53)
-held {a} p e = rw e (nearest-bounds a (p .low) (p .high))
+pub held : {v len a h q : ℕ} → Parted v len a h → q ≡ nearestRoot (a * 2 ^ 52) → (2 ^ 52 ≤ q) × (q < 2 ^ 53)
+held {a = a} p e = rw e (nearest-bounds a (p .low) (p .high))
 
 -- ---- what the definition says of the root: m lies strictly between the squares of n - 1/2 and n + 1/2, so there is never a tie
 pub record Close (m n : ℕ) : Type 0 where

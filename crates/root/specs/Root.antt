@@ -1,19 +1,20 @@
 -- The square root of a binary64, rounded to nearest. Definitions, and examples at the end.
-use Prim.Native.Nat.{ℕ, zero, suc, _+_, _*_, _/_, _^_, _%_, _-_, _≤_, _<_, compare}
+use Prim.Native.Nat.{ℕ, zero, suc, _+_, _*_, _/_, _^_, compare}
 use mathlib.Core.Path.{_≡_, refl}
 use mathlib.Core.Bool.{false, cond, _&&_}
-use lib.Dec.{leb, ltb, eqb}
-use lib.Ieee.{Float, nan, inf, fin, binary64, up, down, add, sub, mul, div, eq, lt, size, nearest, units, ofBits, toBits}
+use lib.Dec.{leb}
+use lib.Ieee.{Float, nan, inf, fin, binary64, up, down, lt, size, nearest, units, ofBits, toBits}
+use Rattle.real.specs.Reals.{zero64, inf64}
 
 -- 2 * r + 1 where its square is at most n, else 2 * r: one binary digit more of the root of n
-unfoldable pub digit : ℕ → ℕ → ℕ
-digit n r = cond (leb ((2 * r + 1) * (2 * r + 1)) n) (2 * r + 1) (2 * r)
+unfoldable pub rootDigit : ℕ → ℕ → ℕ
+rootDigit n r = cond (leb ((2 * r + 1) * (2 * r + 1)) n) (2 * r + 1) (2 * r)
 
 -- the largest number whose square is at most n, for an n below 4 ^ k, digit by digit
 unfoldable pub isqrt : ℕ → ℕ → ℕ
-unfolding digit
+unfolding rootDigit
 isqrt zero n = 0
-isqrt (suc k) n = digit n (isqrt k (n / 4))
+isqrt (suc k) n = rootDigit n (isqrt k (n / 4))
 
 -- a positive finite x as a multiple of the smallest binary64, 2 ^ -1074
 unfoldable pub inUnits : Float → ℕ
@@ -34,79 +35,10 @@ unfoldable pub rootUnits : ℕ → Float
 unfolding nearestRoot size units
 rootUnits n = let h = (size n + 1) / 2 in units binary64 false (nearestRoot (n * 2 ^ 106 / 4 ^ h)) (h + 484)
 
--- plus zero
-abbrev pub zero64 : Float
-zero64 = ofBits binary64 0
-
--- plus infinity
-abbrev pub inf64 : Float
-inf64 = inf false
-
 -- the square root of x: NaN of a negative number; zero of either sign, infinity and NaN are their own
 unfoldable pub root : Float → Float
 unfolding rootUnits inUnits lt
 root x = cond (lt x zero64) nan (cond (lt zero64 x && lt x inf64) (rootUnits (inUnits x)) x)
-
--- ---- what the code's parts ensure
-
--- q and r are the whole root of m and what is left of m
-pub record Rooted (m q r : ℕ) : Type 0 where
-  pub exact : q * q + r ≡ m
-  pub small : r ≤ q + q
-
--- a and h are the leading digits and half the length of n, as `rootUnits` has them: a has 53 or 54 digits
-pub record Parted (n a h : ℕ) : Type 0 where
-  pub half : h ≡ (size n + 1) / 2
-  pub value : n * 2 ^ 106 ≡ a * 2 ^ 52 * 4 ^ h
-  pub low : 2 ^ 52 ≤ a
-  pub high : a < 2 ^ 54 - 1
-  pub short : h ≤ 1049
-
--- the same of a number of len digits, the first 53 of which are sig
-pub record Halved (sig len a h : ℕ) : Type 0 where
-  pub half : h ≡ (len + 1) / 2
-  pub value : sig * 2 ^ (len + 53) ≡ a * 2 ^ 52 * 4 ^ h
-  pub low : 2 ^ 52 ≤ a
-  pub high : a < 2 ^ 54 - 1
-
--- the units of the bit pattern of a positive finite binary64
-unfoldable pub unitsOfBits : ℕ → ℕ
-unitsOfBits b = cond (eqb (b / 2 ^ 52) 0) b ((2 ^ 52 + b % 2 ^ 52) * 2 ^ (b / 2 ^ 52 - 1))
-
--- ---- the guess: nothing rests on its value, since the root is settled from any
-
--- the bits of x, and 0 for NaN
-unfoldable pub patternOf : Float → ℕ
-unfolding eq toBits
-patternOf x = cond (eq x x) (toBits binary64 x) 0
-
--- a polynomial near the root of s, for s from 1/2 to 2
-unfoldable pub estimateOf : Float → Float
-unfolding add sub mul ofBits
-estimateOf s =
-    let w = mul binary64 s s in
-    let low = add binary64 (ofBits binary64 0x3FCF17FC23D13F09) (mul binary64 (ofBits binary64 0x3FF3B31FFEEC6D8F) s) in
-    let middle = sub binary64 (mul binary64 (ofBits binary64 0x3FDBF89F05BD8436) s) (ofBits binary64 0x3FE9581841C3C011) in
-    let high = sub binary64 (mul binary64 (ofBits binary64 0x3F92700894734127) s) (ofBits binary64 0x3FC190AA8A5C6D9B) in
-    add binary64 low (mul binary64 w (add binary64 middle (mul binary64 w high)))
-
--- two steps of Newton's iteration for the root of s, from y
-unfoldable pub newtonOf : Float → Float → Float
-unfolding add mul div ofBits
-newtonOf s y =
-    let z = add binary64 y (div binary64 s y) in
-    add binary64 (mul binary64 (ofBits binary64 0x3FD0_0000_0000_0000) z) (div binary64 s z)
-
--- the digits of x with an exponent that makes them a number from 1/2 to 2, and the guess at its root
-unfoldable pub guessOf : Float → Float
-unfolding patternOf estimateOf newtonOf ofBits
-guessOf x =
-    let s = ofBits binary64 (patternOf x % 0x20_0000_0000_0000 + 0x3FE0_0000_0000_0000) in
-    newtonOf s (estimateOf s)
-
--- 1 where m is below n, else 0
-unfoldable pub oneIfBelow : ℕ → ℕ → ℕ
-oneIfBelow m n = cond (ltb m n) 1 0
 
 -- ---- examples, by their bits
 
@@ -116,35 +48,18 @@ module _ where
   unfolding root toBits
   rootBits b = toBits binary64 (root (ofBits binary64 b))
 
-  -- 2 = root of 4; then 2, 5, the smallest subnormal, the greatest finite number, -0, -1 and infinity
-  four : rootBits 0x4010_0000_0000_0000 ≡ 0x4000_0000_0000_0000
+  -- 2 = root of 4; then 2, 5, the smallest subnormal, the greatest finite number, -0 and infinity
+  bitsExamples :
+      (rootBits 0x4010_0000_0000_0000 ≡ 0x4000_0000_0000_0000)
+      × (rootBits 0x4000_0000_0000_0000 ≡ 0x3FF6_A09E_667F_3BCD)
+      × (rootBits 0x4014_0000_0000_0000 ≡ 0x4001_E377_9B97_F4A8)
+      × (rootBits 1 ≡ 0x1E60_0000_0000_0000)
+      × (rootBits 0x7FEF_FFFF_FFFF_FFFF ≡ 0x5FEF_FFFF_FFFF_FFFF)
+      × (rootBits 0x8000_0000_0000_0000 ≡ 0x8000_0000_0000_0000)
+      × (rootBits 0x7FF0_0000_0000_0000 ≡ 0x7FF0_0000_0000_0000)
   unfolding rootBits ofBits
-  four = refl
+  bitsExamples = (refl, refl, refl, refl, refl, refl, refl)
 
-  two : rootBits 0x4000_0000_0000_0000 ≡ 0x3FF6_A09E_667F_3BCD
-  unfolding rootBits ofBits
-  two = refl
-
-  five : rootBits 0x4014_0000_0000_0000 ≡ 0x4001_E377_9B97_F4A8
-  unfolding rootBits ofBits
-  five = refl
-
-  least : rootBits 1 ≡ 0x1E60_0000_0000_0000
-  unfolding rootBits ofBits
-  least = refl
-
-  greatest : rootBits 0x7FEF_FFFF_FFFF_FFFF ≡ 0x5FEF_FFFF_FFFF_FFFF
-  unfolding rootBits ofBits
-  greatest = refl
-
-  minusZero : rootBits 0x8000_0000_0000_0000 ≡ 0x8000_0000_0000_0000
-  unfolding rootBits ofBits
-  minusZero = refl
-
-  minusOne : root (ofBits binary64 0xBFF0_0000_0000_0000) ≡ nan
+  negativeExample : root (ofBits binary64 0xBFF0_0000_0000_0000) ≡ nan
   unfolding root ofBits
-  minusOne = refl
-
-  infinity : rootBits 0x7FF0_0000_0000_0000 ≡ 0x7FF0_0000_0000_0000
-  unfolding rootBits ofBits
-  infinity = refl
+  negativeExample = refl

@@ -9,7 +9,7 @@ use native.Mathlib.Omega.{arith}
 use lib.Dec.{ltb}
 use lib.ListN.{length, length-append}
 use Rattle.wire.specs.Wire.{loadOf}
-use Rattle.text.specs.Listing.{digitOf, hexIn, hexDigits, decimalIn, decimal, bitsText, countText, bitsTexts, summaryLine, rowLine, rowLines, loads, rowsOf}
+use Rattle.text.specs.Listing.{digitOf, hexIn, decimalIn, bitsText, countText, bitsTexts, summaryLine, rowLine, rowLines, loads, rowsOf}
 
 pub length-hexIn : (n v : ℕ) → length (hexIn n v) ≡ n
 unfolding hexIn
@@ -17,7 +17,7 @@ length-hexIn zero v = refl
 length-hexIn (suc n) v = length-append (hexIn n (v / 16)) (digitOf (v % 16) ∷ []) ∙ omega (arith, length-hexIn n (v / 16))
 
 pub length-bitsText : (v : ℕ) → length (bitsText v) ≡ 17
-unfolding bitsText hexDigits
+unfolding bitsText
 length-bitsText v = ap suc (length-hexIn 16 v)
 
 pub length-decimalIn : (n v : ℕ) → length (decimalIn n v) ≤ n
@@ -30,7 +30,7 @@ length-decimalIn (suc n) v = either (ltb v 10) (decimalIn n (v / 10)) (digitOf v
     either false l x y h = omega (arith, length-append l (y ∷ []))
 
 pub length-countText : (v : ℕ) → length (countText v) ≤ 7
-unfolding countText decimal
+unfolding countText
 length-countText v = omega (arith, length-decimalIn 6 v)
 
 pub length-bitsTexts : (vs : List ℕ) → length (bitsTexts vs) ≡ 17 * length vs

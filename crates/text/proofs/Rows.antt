@@ -6,7 +6,7 @@ use native.Mathlib.Nat.{le-trans, le-of-eq, suc-mul, mul-le-mul-right}
 use native.Mathlib.Omega.{arith}
 use lib.ListN.{length, set, length-append}
 use Rattle.wire.specs.Wire.{loadOf}
-use Rattle.text.specs.Listing.{bitsText, countText, bitsTexts, rowWord, newline, rowLine, rowLines, loads, rowsOf, Written}
+use Rattle.text.specs.Listing.{bitsText, countText, bitsTexts, rowWord, newline, rowLine, rowLines, loads, rowsOf, WrittenText}
 use Rattle.text.proofs.Lines.{start, and-then}
 use Rattle.text.proofs.Lengths.{length-bitsText, length-countText, length-bitsTexts, length-loads, bits-more, rows-more}
 use Rattle.text.proofs.Parts.{bits-end}
@@ -15,7 +15,7 @@ use Rattle.text.proofs.Parts.{bits-end}
 pub record Numbering (d₀ : List ℕ) (at : ℕ) (out : List ℕ) (first count k : ℕ) (d : List ℕ) (to : ℕ) : Type 0 where
   pub most : k ≤ count
   pub reach : to ≡ at + 17 * k
-  pub text : Written d₀ at (bitsTexts (loads out first k)) d to
+  pub text : WrittenText d₀ at (bitsTexts (loads out first k)) d to
 
 module _ {d₀ : List ℕ} {at : ℕ} {out : List ℕ} {first count : ℕ} where
   pub none-yet : Numbering d₀ at out first count 0 d₀ at
@@ -23,7 +23,7 @@ module _ {d₀ : List ℕ} {at : ℕ} {out : List ℕ} {first count : ℕ} where
   none-yet = record { most = omega arith; reach = omega arith; text = start }
 
   pub number-more : {k to : ℕ} {d d′ : List ℕ} {to′ v : ℕ} → Numbering d₀ at out first count k d to → k < count → at + 17 * count ≤ length d₀ → v ≡ loadOf out (8 * (first + k))
-      → Written d to (bitsText v) d′ to′ → Numbering d₀ at out first count (k + 1) d′ to′
+      → WrittenText d to (bitsText v) d′ to′ → Numbering d₀ at out first count (k + 1) d′ to′
   number-more {k} {to} {d} {d′} {to′} {v} n h room is w =
       record {
         most = omega arith;
@@ -31,7 +31,7 @@ module _ {d₀ : List ℕ} {at : ℕ} {out : List ℕ} {first count : ℕ} where
         text = rw (← bits-more out first k, ← is) (and-then (n .text) w (omega (arith, bits-end v w)));
       }
 
-  pub numbers-all : {k to : ℕ} {d : List ℕ} → Numbering d₀ at out first count k d to → count ≤ k → Written d₀ at (bitsTexts (loads out first count)) d to
+  pub numbers-all : {k to : ℕ} {d : List ℕ} → Numbering d₀ at out first count k d to → count ≤ k → WrittenText d₀ at (bitsTexts (loads out first count)) d to
   numbers-all {k} n h = let e : count ≡ k = omega arith in rw e (n .text)
 
 -- row i of n rows of k lies within them
@@ -48,7 +48,7 @@ length-rowLine i row =
 pub record Listing (d₀ : List ℕ) (at : ℕ) (out : List ℕ) (width n i : ℕ) (d : List ℕ) (to : ℕ) : Type 0 where
   pub most : i ≤ n
   pub reach : to ≤ at + 198 * i
-  pub text : Written d₀ at (rowLines 0 (rowsOf out width i)) d to
+  pub text : WrittenText d₀ at (rowLines 0 (rowsOf out width i)) d to
 
 module _ {d₀ : List ℕ} {at : ℕ} {out : List ℕ} {width n : ℕ} where
   pub no-row : Listing d₀ at out width n 0 d₀ at
@@ -56,7 +56,7 @@ module _ {d₀ : List ℕ} {at : ℕ} {out : List ℕ} {width n : ℕ} where
   no-row = record { most = omega arith; reach = omega arith; text = start }
 
   pub row-more : {i to : ℕ} {d d′ : List ℕ} {to′ : ℕ} → Listing d₀ at out width n i d to → i < n → at + 198 * n ≤ length d₀ → width ≤ 11
-      → Written d to (rowLine i (loads out (i * width) width)) d′ to′ → Listing d₀ at out width n (i + 1) d′ to′
+      → WrittenText d to (rowLine i (loads out (i * width) width)) d′ to′ → Listing d₀ at out width n (i + 1) d′ to′
   row-more {i} {to} {d} {d′} {to′} l h room narrow w =
       let reach : to′ ≤ at + 198 * (i + 1) = omega (arith, length-rowLine i (loads out (i * width) width), length-loads out (i * width) width) in
       record {
@@ -65,5 +65,5 @@ module _ {d₀ : List ℕ} {at : ℕ} {out : List ℕ} {width n : ℕ} where
         text = rw (← rows-more out width i) (and-then (l .text) w (omega arith));
       }
 
-  pub rows-all : {i to : ℕ} {d : List ℕ} → Listing d₀ at out width n i d to → n ≤ i → Written d₀ at (rowLines 0 (rowsOf out width n)) d to × (to ≤ at + 198 * n)
+  pub rows-all : {i to : ℕ} {d : List ℕ} → Listing d₀ at out width n i d to → n ≤ i → WrittenText d₀ at (rowLines 0 (rowsOf out width n)) d to × (to ≤ at + 198 * n)
   rows-all {i} l h = let e : n ≡ i = omega arith in (rw e (l .text), omega (arith, l .reach))

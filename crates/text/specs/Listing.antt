@@ -16,36 +16,26 @@ unfoldable pub hexIn : ℕ → ℕ → List ℕ
 hexIn zero v = []
 hexIn (suc n) v = hexIn n (v / 16) ++ (digitOf (v % 16) ∷ [])
 
-unfoldable pub hexDigits : ℕ → List ℕ
-hexDigits v = hexIn 16 v
-
 -- the decimal digits of a v below 10 ^ n, with no zero in front
 unfoldable pub decimalIn : ℕ → ℕ → List ℕ
 decimalIn zero v = []
 decimalIn (suc n) v = cond (ltb v 10) (digitOf v ∷ []) (decimalIn n (v / 10) ++ (digitOf (v % 10) ∷ []))
 
--- v in decimal, for a v below 1000000
-unfoldable pub decimal : ℕ → List ℕ
-decimal v = decimalIn 6 v
-
--- a space, and a number in either form
+-- a space, and a number by its 16 hexadecimal digits, or in decimal where it is below 1000000
 unfoldable pub bitsText : ℕ → List ℕ
-bitsText v = 32 ∷ hexDigits v
+bitsText v = 32 ∷ hexIn 16 v
 
 unfoldable pub countText : ℕ → List ℕ
-countText v = 32 ∷ decimal v
+countText v = 32 ∷ decimalIn 6 v
 
 -- several numbers, each after a space
 unfoldable pub bitsTexts : List ℕ → List ℕ
 bitsTexts [] = []
 bitsTexts (v ∷ vs) = bitsText v ++ bitsTexts vs
 
--- "fit", "fit 0" and "row"
+-- "fit" and "row"
 abbrev pub fitWord : List ℕ
 fitWord = 102 ∷ 105 ∷ 116 ∷ []
-
-abbrev pub fitZero : List ℕ
-fitZero = 102 ∷ 105 ∷ 116 ∷ 32 ∷ 48 ∷ []
 
 abbrev pub rowWord : List ℕ
 rowWord = 114 ∷ 111 ∷ 119 ∷ []
@@ -57,9 +47,9 @@ newline = 10 ∷ []
 unfoldable pub refusedLine : ℕ → List ℕ
 refusedLine number = fitWord ++ countText number ++ newline
 
--- a fit's line: fit 0, the bandwidth's bits, those of AICc, how many solves
+-- a fit's line: fit, 0, the bandwidth's bits, those of AICc, how many solves
 unfoldable pub summaryLine : ℕ → ℕ → ℕ → List ℕ
-summaryLine bandwidth aicc solves = fitZero ++ bitsText bandwidth ++ bitsText aicc ++ countText solves ++ newline
+summaryLine bandwidth aicc solves = fitWord ++ countText 0 ++ bitsText bandwidth ++ bitsText aicc ++ countText solves ++ newline
 
 -- a row's line: row, its number, the bits of what it holds
 unfoldable pub rowLine : ℕ → List ℕ → List ℕ
@@ -74,7 +64,7 @@ rowLines i (row ∷ rows) = rowLine i row ++ rowLines (i + 1) rows
 unfoldable pub listing : ℕ → ℕ → ℕ → List (List ℕ) → List ℕ
 listing bandwidth aicc solves rows = summaryLine bandwidth aicc solves ++ rowLines 0 rows
 
--- ---- the numbers as bytes hold them
+-- ---- what the code's parts need: the numbers as bytes hold them, and what is written where
 
 -- n numbers of s, from number `first` on
 unfoldable pub loads : List ℕ → ℕ → ℕ → List ℕ
@@ -87,7 +77,7 @@ rowsOf s width zero = []
 rowsOf s width (suc n) = rowsOf s width n ++ (loads s (n * width) width ∷ [])
 
 -- d is d₀ with the line from `at` on, and the line ends at `end`
-pub record Written (d₀ : List ℕ) (at : ℕ) (line d : List ℕ) (end : ℕ) : Type 0 where
+pub record WrittenText (d₀ : List ℕ) (at : ℕ) (line d : List ℕ) (end : ℕ) : Type 0 where
   pub is : d ≡ placed d₀ at line
   pub stop : end ≡ at + length line
   pub long : length d ≡ length d₀
@@ -96,18 +86,18 @@ pub record Written (d₀ : List ℕ) (at : ℕ) (line d : List ℕ) (end : ℕ) 
 
 module _ where
   refusal : refusedLine 18 ≡ 102 ∷ 105 ∷ 116 ∷ 32 ∷ 49 ∷ 56 ∷ 10 ∷ []
-  unfolding refusedLine countText decimal decimalIn digitOf
+  unfolding refusedLine countText decimalIn digitOf
   refusal = refl
 
-  counts : decimal 52736 ≡ 53 ∷ 50 ∷ 55 ∷ 51 ∷ 54 ∷ []
-  unfolding decimal decimalIn digitOf
+  counts : decimalIn 6 52736 ≡ 53 ∷ 50 ∷ 55 ∷ 51 ∷ 54 ∷ []
+  unfolding decimalIn digitOf
   counts = refl
 
-  none : decimal 0 ≡ 48 ∷ []
-  unfolding decimal decimalIn digitOf
+  none : decimalIn 6 0 ≡ 48 ∷ []
+  unfolding decimalIn digitOf
   none = refl
 
   -- the bits of -1
-  minusOne : hexDigits 0xBFF0_0000_0000_0000 ≡ 66 ∷ 70 ∷ 70 ∷ 48 ∷ 48 ∷ 48 ∷ 48 ∷ 48 ∷ 48 ∷ 48 ∷ 48 ∷ 48 ∷ 48 ∷ 48 ∷ 48 ∷ 48 ∷ []
-  unfolding hexDigits hexIn digitOf
+  minusOne : hexIn 16 0xBFF0_0000_0000_0000 ≡ 66 ∷ 70 ∷ 70 ∷ 48 ∷ 48 ∷ 48 ∷ 48 ∷ 48 ∷ 48 ∷ 48 ∷ 48 ∷ 48 ∷ 48 ∷ 48 ∷ 48 ∷ 48 ∷ []
+  unfolding hexIn digitOf
   minusOne = refl

@@ -3,11 +3,11 @@ ghost use mathlib.Core.Path.{_≡_};
 ghost use Prim.Native.Nat.{_+_, _*_, _≤_, _<_};
 ghost use lib.ListN.{length};
 ghost use Rattle.wire.specs.Wire.{loadOf};
-ghost use Rattle.text.specs.Listing.{digitOf, hexIn, decimalIn, bitsText, countText, bitsTexts, refusedLine, summaryLine, rowLine, rowLines, listing, loads, rowsOf, Written};
+ghost use Rattle.text.specs.Listing.{digitOf, hexIn, decimalIn, bitsText, countText, bitsTexts, refusedLine, summaryLine, rowLine, rowLines, listing, loads, rowsOf, WrittenText};
 
 fn put_word(text: &mut [u8], at: usize, word: &[u8]) -> usize
     requires { ⌜ at + length (now word) ≤ length (now text) ⌝ }
-    ensures { λ r. ⌜ Written (now (text .entry)) at (now (word .entry)) (now (text .exit)) r ⌝ }
+    ensures { λ r. ⌜ WrittenText (now (text .entry)) at (now (word .entry)) (now (text .exit)) r ⌝ }
 {
     for k in 0..word.len() {
         text[at + k] = word[k];
@@ -26,7 +26,7 @@ fn digit(v: u64) -> u8
 // The lowest hexadecimal digits of v, as many as there are places: those of v / 16 come before the last.
 fn put_hex(text: &mut [u8], at: usize, v: u64, places: usize) -> usize
     requires { ⌜ at + places ≤ length (now text) ⌝ }
-    ensures { λ r. ⌜ Written (now (text .entry)) at (hexIn places v) (now (text .exit)) r ⌝ }
+    ensures { λ r. ⌜ WrittenText (now (text .entry)) at (hexIn places v) (now (text .exit)) r ⌝ }
 {
     if places == 0 {
         return at;
@@ -39,7 +39,7 @@ fn put_hex(text: &mut [u8], at: usize, v: u64, places: usize) -> usize
 // The decimal digits of a v with at most that many places, with no zero in front.
 fn put_decimal(text: &mut [u8], at: usize, v: u64, places: usize) -> usize
     requires { ⌜ at + places ≤ length (now text) ⌝ }
-    ensures { λ r. ⌜ Written (now (text .entry)) at (decimalIn places v) (now (text .exit)) r ⌝ }
+    ensures { λ r. ⌜ WrittenText (now (text .entry)) at (decimalIn places v) (now (text .exit)) r ⌝ }
 {
     if places == 0 {
         return at;
@@ -56,7 +56,7 @@ fn put_decimal(text: &mut [u8], at: usize, v: u64, places: usize) -> usize
 // A space and 16 hexadecimal digits.
 pub fn put_bits(text: &mut [u8], at: usize, v: u64) -> usize
     requires { ⌜ at + 17 ≤ length (now text) ⌝ }
-    ensures { λ r. ⌜ Written (now (text .entry)) at (bitsText v) (now (text .exit)) r ⌝ }
+    ensures { λ r. ⌜ WrittenText (now (text .entry)) at (bitsText v) (now (text .exit)) r ⌝ }
 {
     text[at] = b' ';
     put_hex(&mut *text, at + 1, v, 16)
@@ -65,7 +65,7 @@ pub fn put_bits(text: &mut [u8], at: usize, v: u64) -> usize
 // A space and a number in decimal.
 pub fn put_count(text: &mut [u8], at: usize, v: u64) -> usize
     requires { ⌜ (at + 7 ≤ length (now text)) × (v < 1000000) ⌝ }
-    ensures { λ r. ⌜ Written (now (text .entry)) at (countText v) (now (text .exit)) r ⌝ }
+    ensures { λ r. ⌜ WrittenText (now (text .entry)) at (countText v) (now (text .exit)) r ⌝ }
 {
     text[at] = b' ';
     put_decimal(&mut *text, at + 1, v, 6)
@@ -74,7 +74,7 @@ pub fn put_count(text: &mut [u8], at: usize, v: u64) -> usize
 // A refusal's line.
 pub fn put_refused(text: &mut [u8], number: u32) -> usize
     requires { ⌜ (11 ≤ length (now text)) × (number < 1000000) ⌝ }
-    ensures { λ r. ⌜ Written (now (text .entry)) 0 (refusedLine number) (now (text .exit)) r ⌝ }
+    ensures { λ r. ⌜ WrittenText (now (text .entry)) 0 (refusedLine number) (now (text .exit)) r ⌝ }
 {
     let named = put_word(&mut *text, 0, b"fit");
     let end = put_count(&mut *text, named, number as u64);
@@ -85,7 +85,7 @@ pub fn put_refused(text: &mut [u8], number: u32) -> usize
 // The line of a fit: no refusal, bandwidth, AICc, solves.
 pub fn put_summary(text: &mut [u8], summary: &[u8]) -> usize
     requires { ⌜ (47 ≤ length (now text)) × (24 ≤ length (now summary)) × (loadOf (now summary) 16 < 1000000) ⌝ }
-    ensures { λ r. ⌜ Written (now (text .entry)) 0 (summaryLine (loadOf (now (summary .entry)) 0) (loadOf (now (summary .entry)) 8) (loadOf (now (summary .entry)) 16)) (now (text .exit)) r ⌝ }
+    ensures { λ r. ⌜ WrittenText (now (text .entry)) 0 (summaryLine (loadOf (now (summary .entry)) 0) (loadOf (now (summary .entry)) 8) (loadOf (now (summary .entry)) 16)) (now (text .exit)) r ⌝ }
 {
     let named = put_word(&mut *text, 0, b"fit 0");
     let bandwidth = put_bits(&mut *text, named, wire::load(summary, 0));
@@ -98,7 +98,7 @@ pub fn put_summary(text: &mut [u8], summary: &[u8]) -> usize
 // `count` numbers of out, from number `first` on.
 fn put_numbers(text: &mut [u8], at: usize, out: &[u8], first: usize, count: usize) -> usize
     requires { ⌜ (at + 17 * count ≤ length (now text)) × (8 * (first + count) ≤ length (now out)) ⌝ }
-    ensures { λ r. ⌜ Written (now (text .entry)) at (bitsTexts (loads (now (out .entry)) first count)) (now (text .exit)) r ⌝ }
+    ensures { λ r. ⌜ WrittenText (now (text .entry)) at (bitsTexts (loads (now (out .entry)) first count)) (now (text .exit)) r ⌝ }
 {
     let mut to = at;
     for k in 0..count {
@@ -110,7 +110,7 @@ fn put_numbers(text: &mut [u8], at: usize, out: &[u8], first: usize, count: usiz
 // The line of row i, `width` numbers.
 pub fn put_row(text: &mut [u8], at: usize, out: &[u8], i: usize, width: usize) -> usize
     requires { ⌜ (at + 198 ≤ length (now text)) × (width ≤ 11) × (i < 1000000) × (8 * (i * width + width) ≤ length (now out)) ⌝ }
-    ensures { λ r. ⌜ Written (now (text .entry)) at (rowLine i (loads (now (out .entry)) (i * width) width)) (now (text .exit)) r ⌝ }
+    ensures { λ r. ⌜ WrittenText (now (text .entry)) at (rowLine i (loads (now (out .entry)) (i * width) width)) (now (text .exit)) r ⌝ }
 {
     let named = put_word(&mut *text, at, b"row");
     let counted = put_count(&mut *text, named, i as u64);
@@ -122,7 +122,7 @@ pub fn put_row(text: &mut [u8], at: usize, out: &[u8], i: usize, width: usize) -
 // The lines of the first n rows.
 fn put_rows(text: &mut [u8], at: usize, out: &[u8], n: usize, width: usize) -> usize
     requires { ⌜ (at + 198 * n ≤ length (now text)) × (n ≤ 1000000) × (width ≤ 11) × (8 * (n * width) ≤ length (now out)) ⌝ }
-    ensures { λ r. ⌜ Written (now (text .entry)) at (rowLines 0 (rowsOf (now (out .entry)) width n)) (now (text .exit)) r × (r ≤ at + 198 * n) ⌝ }
+    ensures { λ r. ⌜ WrittenText (now (text .entry)) at (rowLines 0 (rowsOf (now (out .entry)) width n)) (now (text .exit)) r × (r ≤ at + 198 * n) ⌝ }
 {
     let mut to = at;
     for i in 0..n {
@@ -135,7 +135,7 @@ fn put_rows(text: &mut [u8], at: usize, out: &[u8], n: usize, width: usize) -> u
 pub fn put_fit(text: &mut [u8], summary: &[u8], out: &[u8], n: usize, width: usize) -> usize
     requires { ⌜ (47 + 198 * n ≤ length (now text)) × (n ≤ 1000000) × (width ≤ 11) × (8 * (n * width) ≤ length (now out)) ⌝ }
     requires { ⌜ (24 ≤ length (now summary)) × (loadOf (now summary) 16 < 1000000) ⌝ }
-    ensures { λ r. ⌜ Written (now (text .entry)) 0 (listing (loadOf (now (summary .entry)) 0) (loadOf (now (summary .entry)) 8) (loadOf (now (summary .entry)) 16) (rowsOf (now (out .entry)) width n)) (now (text .exit)) r ⌝ }
+    ensures { λ r. ⌜ WrittenText (now (text .entry)) 0 (listing (loadOf (now (summary .entry)) 0) (loadOf (now (summary .entry)) 8) (loadOf (now (summary .entry)) 16) (rowsOf (now (out .entry)) width n)) (now (text .exit)) r ⌝ }
 {
     let to = put_summary(&mut *text, summary);
     put_rows(&mut *text, to, out, n, width)

@@ -3,11 +3,12 @@ use criterion::Criterion;
 use criterion::Summary;
 use golden::Bracket;
 use job::Answer;
-use job::Job;
-use job::Setup;
-use job::Stage;
 use kernel::GwrKernel;
-use neighbours::GwrBandwidth;
+use setup::GwrBandwidth;
+use setup::Setup;
+use stepping::Job;
+use stepping::Stage;
+use sweep::Finish;
 
 pub fn same_real(a: f64, b: f64) -> bool {
     wire::bits_of(a) == wire::bits_of(b)
@@ -97,12 +98,15 @@ fn same_bracket(a: Bracket, b: Bracket) -> bool {
 
 fn same_place(a: Job, b: Job) -> bool {
     let counts = both(
-        a.location == b.location,
-        both(a.trials == b.trials, a.solves == b.solves),
+        a.sweep.location == b.sweep.location,
+        both(a.trials.made == b.trials.made, a.solves == b.solves),
     );
     both(
         counts,
-        both(same_real(a.trace, b.trace), same_real(a.squares, b.squares)),
+        both(
+            same_real(a.sweep.trace, b.sweep.trace),
+            same_real(a.sweep.squares, b.sweep.squares),
+        ),
     )
 }
 
@@ -138,8 +142,8 @@ pub fn same_job(a: Job, b: Job) -> bool {
     let bandwidth_a = a.bandwidth;
     let bandwidth_b = b.bandwidth;
     let bandwidths = same_bandwidth(bandwidth_a, bandwidth_b);
-    let bracket_a = a.bracket;
-    let bracket_b = b.bracket;
+    let bracket_a = a.trials.bracket;
+    let bracket_b = b.trials.bracket;
     let brackets = same_bracket(bracket_a, bracket_b);
     both(
         both(stages, setups),
@@ -147,12 +151,22 @@ pub fn same_job(a: Job, b: Job) -> bool {
     )
 }
 
-// An answer's number: 0 for ended, 99 for working, and else the refusal's.
+// What stands for working among the numbers of answers: beyond every refusal's.
+pub const WORKING: u32 = 100;
+
+// An answer's number: 0 for ended well, WORKING, and else the refusal's.
 pub fn answer_number(a: Answer) -> u32 {
     match a {
-        Answer::Working => 99,
-        Answer::Ended(_) => 0,
-        Answer::Failed(r, _) => r.number(),
+        Answer::Working => WORKING,
+        Answer::Ended(f) => finish_number(f),
         Answer::Refused(r) => r.number(),
+    }
+}
+
+// The number of the refusal that a job ended with, 0 for none.
+fn finish_number(f: Finish) -> u32 {
+    match f {
+        Finish::Fitted(_) => 0,
+        Finish::Failed(r, _) => r.number(),
     }
 }

@@ -2,8 +2,8 @@
 ghost use Prim.Native.Nat.{_<_, _≤_, _^_};
 use crate::compare;
 use crate::made;
-use job::Job;
 use job::Turned;
+use stepping::Job;
 
 // A turn, and the refusal that it must answer, 0 for none.
 pub struct Given {

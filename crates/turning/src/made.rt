@@ -3,8 +3,8 @@ ghost use mathlib.Core.Path.{_≡_};
 ghost use Prim.Native.Nat.{_<_, _≤_, _^_};
 ghost use lib.ListN.{length};
 use kernel::GwrKernel;
-use neighbours::GwrBandwidth;
-use plan::GwrOptions;
+use setup::GwrBandwidth;
+use setup::GwrOptions;
 
 pub struct Case {
     pub n: usize,

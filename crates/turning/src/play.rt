@@ -13,8 +13,9 @@ use gwr::Fit;
 use gwr::FitAnswer;
 use job::Answer;
 use job::Beginning;
-use job::Job;
-use plan::GwrOptions;
+use setup::GwrOptions;
+use stepping::Job;
+use sweep::Finish;
 
 // After a turn: whether its output is that of the record that follows, and that of the uninterrupted fit, and the steps so far.
 struct Seen {
@@ -84,24 +85,30 @@ fn play_data(
 fn ending_of(fit: Fit) -> Ending {
     let answer = fit.answer;
     match answer {
-        FitAnswer::Fitted(v) => Ending {
-            number: 0,
-            bandwidth: v.bandwidth,
-            aicc: v.aicc,
-            solves: v.solves,
-        },
-        FitAnswer::Failed(r, v) => Ending {
-            number: r.number(),
-            bandwidth: v.bandwidth,
-            aicc: v.aicc,
-            solves: v.solves,
-        },
+        FitAnswer::Done(f) => ending_with(f),
         FitAnswer::Rejected(r) => Ending {
             number: r.number(),
             bandwidth: 0.0,
             aicc: 0.0,
             solves: 0,
         },
+    }
+}
+
+// The end of a fit that was made.
+fn ending_with(f: Finish) -> Ending {
+    match f {
+        Finish::Fitted(s) => summed(0, s),
+        Finish::Failed(r, s) => summed(r.number(), s),
+    }
+}
+
+fn summed(number: u32, s: Summary) -> Ending {
+    Ending {
+        number,
+        bandwidth: s.bandwidth,
+        aicc: s.aicc,
+        solves: s.solves,
     }
 }
 
@@ -190,14 +197,15 @@ fn answered_so(answer: Answer, want: u32, steps: u32, fit: Ending, seen: Seen) -
     match answer {
         Answer::Working => want == 0,
         Answer::Refused(r) => compare::both(r.number() == want, steps == 0),
-        Answer::Ended(s) => compare::both(
-            compare::both(want == 0, fit.number == 0),
-            ended_so(fit, s, seen),
-        ),
-        Answer::Failed(r, s) => compare::both(
-            compare::both(want == 0, r.number() == fit.number),
-            ended_so(fit, s, seen),
-        ),
+        Answer::Ended(f) => compare::both(want == 0, finished_so(f, fit, seen)),
+    }
+}
+
+// Whether a list ended as the fit did.
+fn finished_so(f: Finish, fit: Ending, seen: Seen) -> bool {
+    match f {
+        Finish::Fitted(s) => compare::both(fit.number == 0, ended_so(fit, s, seen)),
+        Finish::Failed(r, s) => compare::both(r.number() == fit.number, ended_so(fit, s, seen)),
     }
 }
 

@@ -1,16 +1,19 @@
 // Records at the limits of what is fit: a turn must refuse those beyond them with 19.
 use crate::compare;
+use crate::compare::WORKING;
 use crate::tally::Tally;
 use criterion::Criterion;
 use golden::Bracket;
-use job::Job;
-use job::Setup;
-use job::Stage;
 use kernel::GwrKernel;
-use neighbours::GwrBandwidth;
-use plan::GwrOptions;
+use setup::GwrBandwidth;
+use setup::GwrOptions;
+use setup::Setup;
+use stepping::Job;
+use stepping::Stage;
+use stepping::Trials;
+use sweep::Sweep;
 
-// A record in numbers, and what a turn with no allowance on it must answer, 99 for working.
+// A record in numbers, and what a turn with no allowance on it must answer: a refusal, or WORKING.
 struct Row {
     stage: u32,
     kind: usize,
@@ -60,7 +63,7 @@ fn shape_row(k: u32) -> Row {
         1 => shaped(0, 0, 0, 1000, 1000, 19),
         2 => shaped(4, 4, 2, 1000, 1000, 19),
         3 => shaped(4, 8, 2, 1000, 1000, 19),
-        4 => shaped(4, 1, 3, 1000, 1000, 99),
+        4 => shaped(4, 1, 3, 1000, 1000, WORKING),
         5 => shaped(4, 1, 4, 1000, 1000, 19),
         6 => shaped(5, 1, 2, 1000, 1000, 21),
         7 => shaped(4, 3, 2, 1000, 1000, 21),
@@ -68,27 +71,27 @@ fn shape_row(k: u32) -> Row {
         9 => shaped(4, 1, 2, 1000, 3, 19),
         10 => shaped(4, 1, 2, 3, 513, 19),
         11 => shaped(4, 1, 2, 3, 0, 19),
-        12 => shaped(4, 1, 2, 3, 512, 99),
-        _ => shaped(4, 1, 2, 3, 1, 99),
+        12 => shaped(4, 1, 2, 3, 512, WORKING),
+        _ => shaped(4, 1, 2, 3, 1, WORKING),
     }
 }
 
 // Trials that a stage can have, and cannot; solves that trials and location allow, one more once the job has ended.
 fn trial_row(k: u32) -> Row {
     match k {
-        14 => tried(1, 0, 2, 99),
+        14 => tried(1, 0, 2, WORKING),
         15 => tried(1, 1, 2, 19),
         16 => tried(2, 0, 2, 19),
-        17 => tried(2, 1, 2, 99),
+        17 => tried(2, 1, 2, WORKING),
         18 => tried(2, 2, 2, 19),
         19 => tried(3, 1, 2, 19),
-        20 => tried(3, 2, 2, 99),
-        21 => tried(3, 101, 2, 99),
+        20 => tried(3, 2, 2, WORKING),
+        21 => tried(3, 101, 2, WORKING),
         22 => tried(3, 102, 2, 19),
-        23 => tried(4, 0, 2, 99),
-        24 => tried(4, 102, 2, 99),
+        23 => tried(4, 0, 2, WORKING),
+        24 => tried(4, 102, 2, WORKING),
         25 => tried(4, 103, 2, 19),
-        26 => tried(4, 3, 14, 99),
+        26 => tried(4, 3, 14, WORKING),
         27 => tried(4, 3, 15, 19),
         28 => tried(5, 3, 15, 20),
         29 => tried(5, 3, 16, 19),
@@ -126,6 +129,15 @@ fn record(row: Row) -> Job {
         bandwidth: bandwidth_of(row.kind),
         optimize_bandwidth: true,
     };
+    let trials = Trials {
+        bracket: Bracket::none(),
+        made: row.trials,
+    };
+    let sweep = Sweep {
+        location: row.location,
+        trace: 0.0,
+        squares: 0.0,
+    };
     Job {
         setup: Setup {
             options,
@@ -133,17 +145,14 @@ fn record(row: Row) -> Job {
             p: row.p,
         },
         stage: stage_of(row.stage),
-        bracket: Bracket::none(),
+        trials,
         bandwidth: bandwidth_of(row.bandwidth),
-        location: row.location,
-        trace: 0.0,
-        squares: 0.0,
-        trials: row.trials,
+        sweep,
         solves: row.solves,
     }
 }
 
-// A turn on the record answers this refusal, 99 for working, and moves nothing where it refuses.
+// A turn on the record answers this refusal, or WORKING, and moves nothing where it refuses.
 fn judge(j: Job, want: u32, t: Tally) -> Tally {
     let coords = [0.0, 0.0, 1.0, 0.0, 0.0, 2.0, 3.0, 3.0];
     let x = [1.0, 2.0, 4.0, 7.0];

@@ -9,8 +9,8 @@ fn line(word: &[u8], v: u64) {
 }
 
 // The refusals that occurred, by number.
-fn refusals(word: &[u8], counts: [u64; 22]) {
-    for k in 0..22usize {
+fn refusals(word: &[u8], counts: [u64; 100]) {
+    for k in 0..100usize {
         let v = counts[k];
         if 0 < v {
             io::write_all(STDOUT_FILENO, word);

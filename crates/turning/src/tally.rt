@@ -1,7 +1,7 @@
 // What was counted.
 use crate::compare;
-use job::Job;
 use job::Turned;
+use stepping::Job;
 
 // One more, never past a thousand million.
 pub fn more(x: u64) -> u64 {
@@ -13,15 +13,15 @@ pub struct Tally {
     pub lists: u64,
     pub turns: u64,
     pub differences: u64,
-    // Refusals by number: of beginning and of the uninterrupted fit, and of turns.
-    pub fits: [u64; 22],
-    pub turned: [u64; 22],
+    // Refusals by number, from 1 to 99: of beginning and of the uninterrupted fit, and of turns; at 0 what ended well.
+    pub fits: [u64; 100],
+    pub turned: [u64; 100],
 }
 
 impl Tally {
     pub fn new() -> Self {
-        let fits = [0u64; 22];
-        let turned = [0u64; 22];
+        let fits = [0u64; 100];
+        let turned = [0u64; 100];
         Tally {
             jobs: 0,
             lists: 0,
@@ -60,7 +60,7 @@ impl Tally {
     pub fn fitted(mut self, number: u32) -> Self {
         self.jobs = more(self.jobs);
         let k = number as usize;
-        if k < 22 {
+        if k < 100 {
             self.fits[k] = more(self.fits[k]);
         }
         self
@@ -69,7 +69,7 @@ impl Tally {
     pub fn answered(mut self, number: u32) -> Self {
         self.turns = more(self.turns);
         let k = number as usize;
-        if k < 22 {
+        if k < 100 {
             self.turned[k] = more(self.turned[k]);
         }
         self

@@ -3,16 +3,17 @@
 //! Compared are the refusal, the summary (bandwidth, AICc, solve count), every number of the output by its bits, and that no
 //! other byte of the buffers lent was written. A NaN of 000 stands for any; the byte call's must be 7FF8000000000000.
 //! A run with no number given also sees that every kind of job that it drew is among the stored answers of crates/replay.
-//! The exit status is 0 when all agree and every refusal from 1 to 18 occurred, 3 when 000 is not at hand.
+//! The exit status is 0 when all agree and every refusal of the byte calls occurred, 3 when 000 is not at hand.
 
 mod tally;
 
+use gateway::Refusal;
 use oracle::jobs::{Group, RANDOM_JOBS};
 use oracle::stored::{Stored, file};
 use std::collections::BTreeSet;
 use std::process::ExitCode;
 use std::time::Instant;
-use tally::Tally;
+use tally::{NUMBERS, Tally};
 
 /// Kinds that are named where they are not stored.
 const NAMED: usize = 5;
@@ -40,13 +41,17 @@ fn compare_all(count: u64) -> Vec<Tally> {
     })
 }
 
-/// Prints how often each number was answered, and says whether each was.
+/// Prints how often each number was answered, and says whether 0 and each refusal was.
 fn every_number(all: &[Tally]) -> bool {
     println!("number  fit call  weight call");
     let mut absent = Vec::new();
-    for number in 0..19 {
+    for number in 0..NUMBERS {
         let fits: u64 = all.iter().map(|t| t.fits[number]).sum();
         let weights: u64 = all.iter().map(|t| t.weights[number]).sum();
+        let wanted = number == 0 || Refusal::from_number(number as u32).is_some();
+        if !wanted && fits + weights == 0 {
+            continue;
+        }
         println!("{number:>6}  {fits:>8}  {weights:>11}");
         if fits + weights == 0 {
             absent.push(number.to_string());

@@ -12,12 +12,15 @@ use std::time::{Duration, Instant};
 /// Differences that are shown in full.
 const SHOWN: u64 = 5;
 
+/// The numbers that a call may answer: 0, and refusals from 1 to 99.
+pub const NUMBERS: usize = 100;
+
 /// How many comparisons passed and failed, and how often each number was answered.
 pub struct Tally {
-    /// By number, 0 to 18: answers of the fit call.
-    pub fits: [u64; 19],
+    /// By number: answers of the fit call.
+    pub fits: [u64; NUMBERS],
     /// By number: answers of the weight call.
-    pub weights: [u64; 19],
+    pub weights: [u64; NUMBERS],
     /// Both sides agreed on every bit.
     pub passed: u64,
     /// They did not.
@@ -88,8 +91,8 @@ impl Tally {
     /// Nothing compared yet.
     fn new(group: Group) -> Self {
         Tally {
-            fits: [0; 19],
-            weights: [0; 19],
+            fits: [0; NUMBERS],
+            weights: [0; NUMBERS],
             passed: 0,
             failed: 0,
             kinds: BTreeSet::new(),
@@ -138,7 +141,7 @@ impl Take for Tally {
     fn fit(&mut self, job: &Job) {
         let ours = proved(job);
         let theirs = job.expected();
-        self.fits[(ours.number as usize).min(18)] += 1;
+        self.fits[(ours.number as usize).min(NUMBERS - 1)] += 1;
         self.kinds.extend(kinds(self.group, job, &theirs));
         let mut differences = Vec::new();
         if ours.number != theirs.number {
@@ -188,7 +191,7 @@ impl Take for Tally {
         let mut out = vec![FILL; room];
         let number = gateway::bytes::weight(kernel, d, b, &mut out);
         let (expected, bytes) = oracle::expected_weight(kernel, d, b, room);
-        self.weights[(number as usize).min(18)] += 1;
+        self.weights[(number as usize).min(NUMBERS - 1)] += 1;
         let mut differences = Vec::new();
         if number != expected {
             differences.push(format!("refusal: proved {number}, expected {expected}"));

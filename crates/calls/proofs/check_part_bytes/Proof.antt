@@ -1,21 +1,37 @@
--- `calls::check_part_bytes` meets its contract.
+-- `calls::check_part_bytes` meets its contract: its tests are the list's, in order.
 use borrow.Author.Needs.{needs}
-use borrow.Author.Tests.{eq-eqb, ne-eqb, lt-ltb, le-ltb}
 use native.Mathlib.Nat.{mul-le-mul}
 use native.Mathlib.Omega.{arith}
-use Rattle.plan.specs.Checks.{judge}
+use Rattle.checks.proofs.Tests.{tests}
 use Rattle.calls.specs.Calls.{partTests}
 use Rattle.calls.proofs.check_part_bytes.Statement.{statement}
 use Rattle.calls.proofs.check_part_bytes.Tie as tie
 
+mul-if1 : tie.Need-mul-if1
+mul-if1 c = omega (arith, mul-le-mul (c .pre .0) (c .pre .1))
+
+mul-if1-2 : tie.Need-mul-if1-2
+mul-if1-2 c = omega (arith, mul-le-mul (c .pre .0) (c .pre .1))
+
+returns : tie.Need-returns
+unfolding partTests
+returns c = search tests
+
+returns-2 : tie.Need-returns-2
+unfolding partTests
+returns-2 c = search tests
+
+returns-3 : tie.Need-returns-3
+unfolding partTests
+returns-3 c = search tests
+
 pub check-part-bytes-spec : {M : Type 1} → statement M
-unfolding judge partTests
 check-part-bytes-spec =
     tie.close
     (tie.spec
-    (λ c. omega (arith, mul-le-mul (c .pre .0) (c .pre .1)))
-    (λ c. omega (arith, mul-le-mul (c .pre .0) (c .pre .1)))
-    (λ c. rw (ne-eqb _ _ (c .if1 .taken)))
+    mul-if1
+    mul-if1-2
+    returns
     (λ c. search needs)
-    (λ c. rw (eq-eqb _ _ (c .before .if1 .left), ne-eqb _ _ (c .if2 .taken)))
-    (λ c. rw (eq-eqb _ _ (c .before .if1 .left), eq-eqb _ _ (c .if2 .left))))
+    returns-2
+    returns-3)

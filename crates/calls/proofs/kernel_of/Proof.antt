@@ -1,15 +1,30 @@
--- `calls::kernel_of` meets its contract.
-use borrow.Author.Tests.{eq-eqb, ne-eqb, lt-ltb, le-ltb}
+-- `calls::kernel_of`: one need for each kernel, and one for the unknown.
+use borrow.Author.Tests.{eq-eqb, ne-eqb}
 use Rattle.calls.specs.Options.{kernelOf}
 use Rattle.calls.proofs.kernel_of.Statement.{statement}
 use Rattle.calls.proofs.kernel_of.Tie as tie
 
-pub kernel-of-spec : {M : Type 1} → statement M
+returns : tie.Need-returns
 unfolding kernelOf
+returns c = rw (eq-eqb _ _ (c .if1 .taken))
+
+returns-2 : tie.Need-returns-2
+unfolding kernelOf
+returns-2 c = rw (ne-eqb _ _ (c .before .if1 .left), eq-eqb _ _ (c .if2 .taken))
+
+returns-3 : tie.Need-returns-3
+unfolding kernelOf
+returns-3 c = rw (ne-eqb _ _ (c .before .before .if1 .left), ne-eqb _ _ (c .before .if2 .left), eq-eqb _ _ (c .if3 .taken))
+
+returns-4 : tie.Need-returns-4
+unfolding kernelOf
+returns-4 c = rw (ne-eqb _ _ (c .before .before .if1 .left), ne-eqb _ _ (c .before .if2 .left), ne-eqb _ _ (c .if3 .left))
+
+pub kernel-of-spec : {M : Type 1} → statement M
 kernel-of-spec =
     tie.close
     (tie.spec
-    (λ c. rw (eq-eqb _ _ (c .if1 .taken)))
-    (λ c. rw (ne-eqb _ _ (c .before .if1 .left), eq-eqb _ _ (c .if2 .taken)))
-    (λ c. rw (ne-eqb _ _ (c .before .before .if1 .left), ne-eqb _ _ (c .before .if2 .left), eq-eqb _ _ (c .if3 .taken)))
-    (λ c. rw (ne-eqb _ _ (c .before .before .if1 .left), ne-eqb _ _ (c .before .if2 .left), ne-eqb _ _ (c .if3 .left))))
+    returns
+    returns-2
+    returns-3
+    returns-4)

@@ -1,23 +1,23 @@
--- `calls::options_of` meets its contract.
+-- `calls::options_of`: an unknown kernel leaves the options unknown.
 use borrow.Author.Needs.{needs}
-use borrow.Author.Tests.{eq-eqb, ne-eqb, lt-ltb, le-ltb}
-use Rattle.calls.specs.Options.{kindOf}
+use mathlib.Core.Path.{refl, sym, _∙_}
+use Rattle.calls.proofs.Answers.{options-are}
 use Rattle.calls.proofs.options_of.Statement.{statement}
 use Rattle.calls.proofs.options_of.Tie as tie
 
+returns : tie.Need-returns
+returns c = options-are _ _ _ _ _ (sym (c .before .before .before .before .kernel-of .ensures) ∙ c .before .before .known .given .1) (c .kind-of .ensures)
+
+returns-2 : tie.Need-returns-2
+returns-2 c = options-are _ _ _ _ _ (sym (c .before .before .kernel-of .ensures) ∙ c .enum-told .given .1) refl
+
 pub options-of-spec : {M : Type 1} → statement M
-unfolding kindOf
 options-of-spec =
     tie.close
     (tie.spec
     (λ c κs. search needs)
+    (λ c. search needs)
     (λ c κs. search needs)
-    (λ c. rw (c .chosen .ensures, c .before .real-of .ensures, eq-eqb _ _ (c .before .before .if1 .taken)))
-    (λ c κs. search needs)
-    (λ c. rw (c .chosen2 .ensures, ne-eqb _ _ (c .before .before .if1 .left), eq-eqb _ _ (c .before .if2 .taken)))
-    (λ c κs. search needs)
-    (λ c κs. search needs)
-    (λ c. rw (c .chosen3 .ensures, c .before .real-of2 .ensures, ne-eqb _ _ (c .before .before .before .before .if1 .left), ne-eqb _ _ (c .before .before .before .if2 .left), eq-eqb _ _ (c .before .before .if3 .taken)))
-    (λ c κs. search needs)
-    (λ c. rw (c .chosen4 .ensures, ne-eqb _ _ (c .before .before .before .before .if1 .left), ne-eqb _ _ (c .before .before .before .if2 .left), ne-eqb _ _ (c .before .before .if3 .left), eq-eqb _ _ (c .before .if4 .taken)))
-    (λ c. rw (ne-eqb _ _ (c .before .before .before .if1 .left), ne-eqb _ _ (c .before .before .if2 .left), ne-eqb _ _ (c .before .if3 .left), ne-eqb _ _ (c .if4 .left))))
+    (λ c. search needs)
+    returns
+    returns-2)

@@ -1,9 +1,16 @@
--- `calls::weight_bytes` meets its contract.
+-- `calls::weight_bytes`: 18, or what the weight of a known kernel comes to.
 use borrow.Author.Needs.{needs}
 use mathlib.Core.Path.{refl, sym, _∙_}
-use Rattle.calls.proofs.Answers.{both, weight-is, known-is}
+use Rattle.calls.proofs.Answers.{both}
+use Rattle.calls.proofs.Judged.{weight-unknown, weight-weighed}
 use Rattle.calls.proofs.weight_bytes.Statement.{statement}
 use Rattle.calls.proofs.weight_bytes.Tie as tie
+
+returns : tie.Need-returns
+returns c = both (c .number .ensures) refl ∙ sym (weight-unknown _ _ _ _ (sym (c .before .before .before .kernel-of .ensures) ∙ c .before .enum-told .given .1))
+
+returns-2 : tie.Need-returns-2
+returns-2 c = c .before .before .weighed-bytes .ensures ∙ weight-weighed _ _ _ _ _ _ _ _ (sym (c .before .before .before .before .before .before .before .before .before .before .kernel-of .ensures) ∙ c .before .before .before .before .before .before .before .before .known .given .1) (c .before .before .before .before .before .before .real-of .ensures) (c .before .before .before .before .before .real-of2 .ensures) (c .before .before .before .before .weigh-distance .ensures)
 
 pub weight-bytes-spec : {M : Type 1} → statement M
 weight-bytes-spec =
@@ -17,6 +24,6 @@ weight-bytes-spec =
     (λ c κs. search needs)
     (λ c κs. search needs)
     (λ c κs. search needs)
-    (λ c. weight-is _ _ _ _ _ _ (sym (c .before .before .before .kernel-of .ensures) ∙ c .before .enum-told .given .1) (both (c .number .ensures) refl))
+    returns
     (λ c. search needs)
-    (λ c. weight-is _ _ _ _ _ _ (sym (c .before .before .before .before .before .before .before .before .before .before .kernel-of .ensures) ∙ c .before .before .before .before .before .before .before .before .known .given .1) (known-is _ _ _ _ _ _ _ _ (c .before .before .before .before .before .before .real-of .ensures) (c .before .before .before .before .before .real-of2 .ensures) (c .before .before .before .before .weigh-distance .ensures) (c .before .before .place-weight .ensures))))
+    returns-2)

@@ -1,6 +1,7 @@
 -- `criterion::corrected_aic` meets its contract: its test is the definition's.
 use borrow.Author.Needs.{needs}
-use Rattle.criterion.specs.Aicc.{correctedAic, deviation}
+use Rattle.criterion.specs.Published.{deviation}
+use Rattle.criterion.specs.Aicc.{correctedAic}
 use Rattle.criterion.proofs.corrected_aic.Statement.{statement}
 use Rattle.criterion.proofs.corrected_aic.Tie as tie
 

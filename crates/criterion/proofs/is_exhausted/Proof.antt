@@ -2,7 +2,8 @@
 use borrow.Author.Needs.{needs}
 use mathlib.Core.Path.{ap}
 use lib.Ieee.{Float, le}
-use Rattle.criterion.specs.Aicc.{eps64, exhausted}
+use Rattle.real.specs.Reals.{eps64}
+use Rattle.criterion.specs.Aicc.{exhausted}
 use Rattle.criterion.proofs.is_exhausted.Statement.{statement}
 use Rattle.criterion.proofs.is_exhausted.Tie as tie
 

@@ -9,7 +9,7 @@ use lib.Dec.{T, lit≤}
 use lib.IntN.{pos}
 use lib.Ieee.{Float, nan, inf, fin, binary64, lt, sub, div, minus, ofBits, ofInt, toBits, isNan}
 use lib.Ieee.Bits.{toBits-lt}
-use Rattle.elementary.proofs.Patterns.{no-nan}
+use Rattle.real.proofs.Values.{no-nan}
 use Rattle.elementary.specs.Ln.{lnv, lnParts, mantissa, exponent}
 use Rattle.elementary.proofs.WholeDifference.{whole-difference}
 use Rattle.elementary.proofs.ln.Statement.{statement}

@@ -2,7 +2,7 @@
 use native.Mathlib.Omega.{arith}
 use borrow.Author.Needs.{needs}
 use Rattle.exponent_table.specs.Reduction.{twoToMinus}
-use Rattle.elementary.proofs.Patterns.{no-nan}
+use Rattle.real.proofs.Values.{no-nan}
 use Rattle.elementary.proofs.two_to_minus.Statement.{statement}
 use Rattle.elementary.proofs.two_to_minus.Tie as tie
 

@@ -1,7 +1,8 @@
 -- `gauss::gauss_try` meets its contract.
 use borrow.Author.Needs.{needs}
 use mathlib.Core.Path.{sym, _∙_, ap₂}
-use Rattle.gauss.specs.Gauss.{Matrix, tryStep}
+use Rattle.real.specs.Matrix.{Matrix}
+use Rattle.gauss.specs.Gauss.{tryStep}
 use mathlib.Core.Bool.{Bool}
 use Rattle.gauss.proofs.gauss_try.Statement.{statement}
 use Rattle.gauss.proofs.gauss_try.Tie as tie

@@ -1,10 +1,19 @@
--- `listing::asked_behind` meets its contract.
+-- `listing::asked_behind`: what the header asks for.
 use borrow.Author.Needs.{needs}
 use native.Mathlib.Omega.{arith}
 use mathlib.Core.Path.{sym, _∙_}
 use Rattle.listing.proofs.Texts.{head-sized, asked-is}
 use Rattle.listing.proofs.asked_behind.Statement.{statement}
 use Rattle.listing.proofs.asked_behind.Tie as tie
+
+parts-len-requires : tie.Need-parts-len-requires
+parts-len-requires c κs = head-sized _ _ (sym (c .before .before .before .header-of .ensures) ∙ c .before .header .given .1)
+
+returns : tie.Need-returns
+returns c = (asked-is _ _ (sym (c .before .before .header-of .ensures) ∙ c .enum-told .given .1), omega arith)
+
+returns-2 : tie.Need-returns-2
+returns-2 c = (c .parts-len .ensures .0 ∙ asked-is _ _ (sym (c .before .before .before .before .header-of .ensures) ∙ c .before .before .header .given .1), c .parts-len .ensures .1)
 
 pub asked-behind-spec : {M : Type 1} → statement M
 asked-behind-spec =
@@ -13,6 +22,6 @@ asked-behind-spec =
     (λ c κs. search needs)
     (λ c. search needs)
     (λ c. search needs)
-    (λ c κs. head-sized _ _ _ (c .before .before .before .read-header .ensures) (c .before .header .given .1))
-    (λ c. (asked-is _ _ (sym (c .before .before .read-header .ensures .is) ∙ c .enum-told .given .1), omega arith))
-    (λ c. (c .parts-len .ensures .0 ∙ asked-is _ _ (sym (c .before .before .before .before .read-header .ensures .is) ∙ c .before .before .header .given .1), c .parts-len .ensures .1)))
+    parts-len-requires
+    returns
+    returns-2)

@@ -1,10 +1,22 @@
--- `listing::print_job` meets its contract.
+-- `listing::print_job`: the first part cut short, or the text of whole parts.
 use borrow.Author.Needs.{needs}
 use native.Mathlib.Omega.{arith}
-use mathlib.Core.Path.{refl, sym, _∙_}
+use mathlib.Core.Path.{sym, _∙_}
 use Rattle.listing.proofs.Texts.{line-is, number-small, parts-whole, job-refused, job-whole}
 use Rattle.listing.proofs.print_job.Statement.{statement}
 use Rattle.listing.proofs.print_job.Tie as tie
+
+put-refused-requires : tie.Need-put-refused-requires
+put-refused-requires c κs = (search needs, number-small (c .before .before .before .check .given .0 .0) _ (c .number .ensures))
+
+print-whole-requires : tie.Need-print-whole-requires
+print-whole-requires c κs = ((search needs, search needs, parts-whole _ _ _ (sym (c .before .before .before .before .before .check-cuts .ensures) ∙ c .before .before .before .enum-told .given .1)), (omega arith, omega arith, search needs))
+
+returns : tie.Need-returns
+returns c = line-is _ _ _ _ _ (c .before .before .put-refused .ensures) (job-refused _ _ _ _ (sym (c .before .before .before .before .before .before .before .before .check-cuts .ensures) ∙ c .before .before .before .before .before .before .check .given .1) (c .before .before .before .number .ensures))
+
+returns-2 : tie.Need-returns-2
+returns-2 c = line-is _ _ _ _ _ (c .before .before .before .before .print-whole .ensures) (job-whole _ _ (sym (c .before .before .before .before .before .before .before .before .before .before .check-cuts .ensures) ∙ c .before .before .before .before .before .before .before .before .enum-told .given .1))
 
 pub print-job-spec : {M : Type 1} → statement M
 print-job-spec =
@@ -13,12 +25,12 @@ print-job-spec =
     (λ c κs. search needs)
     (λ c. search needs)
     (λ c κs. search needs)
-    (λ c κs. (search needs, number-small (c .before .before .before .check .given .0 .0) _ (c .number .ensures)))
+    put-refused-requires
     (λ c. search needs)
     (λ c. search needs)
     (λ c. search needs)
-    (λ c κs. ((search needs, search needs, parts-whole _ _ _ (sym (c .before .before .before .before .before .check-parts .ensures) ∙ c .before .before .before .enum-told .given .1)), (omega arith, omega arith, search needs)))
+    print-whole-requires
     (λ c. search needs)
-    (λ c. line-is _ _ _ _ _ (c .before .before .put-refused .ensures) (job-refused _ _ _ _ (sym (c .before .before .before .before .before .before .before .before .check-parts .ensures) ∙ c .before .before .before .before .before .before .check .given .1) (c .before .before .before .number .ensures)))
+    returns
     (λ c. search needs)
-    (λ c. line-is _ _ _ _ _ (c .before .before .before .before .print-whole .ensures) (job-whole _ _ (sym (c .before .before .before .before .before .before .before .before .before .before .check-parts .ensures) ∙ c .before .before .before .before .before .before .before .before .enum-told .given .1))))
+    returns-2)

@@ -12,4 +12,4 @@ zescolumba-turns-spec =
     (λ c κs. search needs)
     (λ c κs. search needs)
     (λ c. search needs)
-    (λ c. turns-is _ _ _ _ _ _ _ _ (c .before .before .before .before .before .before .before .kernel-by .ensures) (c .before .before .before .before .before .begin .ensures) (c .before .before .play .ensures)))
+    (λ c. turns-is _ _ _ _ _ _ (c .before .before .before .before .before .before .before .kernel-by .ensures) (c .before .before .before .before .before .begin .ensures) (c .before .before .play .ensures)))

@@ -4,7 +4,7 @@ use mathlib.Core.Path.{refl}
 use borrow.Author.Needs.{needs}
 use lib.ListN.{length}
 use Rattle.wire.proofs.Placed.{Laid, laid-none, laid-more, laid-done}
-use Rattle.text.specs.Listing.{Written}
+use Rattle.text.specs.Listing.{WrittenText}
 use Rattle.text.proofs.put_word.Statement.{statement}
 use Rattle.text.proofs.put_word.Tie as tie
 

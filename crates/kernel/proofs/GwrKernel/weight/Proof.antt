@@ -1,21 +1,23 @@
 -- `kernel::GwrKernel::weight` meets its contract: its tests are those of the definition, and each arm is its kernel.
 use borrow.Author.Needs.{needs}
 use mathlib.Core.Path.{_≡_, sym, _∙_}
-use mathlib.Core.Bool.{true, false}
-use lib.Ieee.{Float, le}
+use mathlib.Core.Bool.{true, false, cond}
+use lib.Ieee.{Float, le, eq}
 use lib.Ieee.Scale.{finite}
-use Rattle.real.specs.Reals.{zero64}
+use Rattle.real.specs.Reals.{zero64, one64}
 use Rattle.kernel.specs.declared.GwrKernel.{GwrKernel}
-use Rattle.kernel.specs.Weight.{unusable, degenerateWeight, exponentialWeight, kernelWeight, weightOf}
+use Rattle.kernel.specs.Published.{exponentialFormula}
+use Rattle.kernel.specs.Weight.{unusable, weightOf}
+use Rattle.kernel.proofs.WeightRange.{kernelWeight}
 use Rattle.kernel.proofs.GwrKernel.weight.Statement.{statement}
 use Rattle.kernel.proofs.GwrKernel.weight.Tie as tie
 
 module _ (k : GwrKernel) (d b : Float) where
-  endless : finite b ≡ false → degenerateWeight d ≡ weightOf k d b
+  endless : finite b ≡ false → cond (eq d zero64) one64 zero64 ≡ weightOf k d b
   unfolding weightOf unusable
   endless f = sym (rw f)
 
-  low : finite b ≡ true → le b zero64 ≡ true → degenerateWeight d ≡ weightOf k d b
+  low : finite b ≡ true → le b zero64 ≡ true → cond (eq d zero64) one64 zero64 ≡ weightOf k d b
   unfolding weightOf unusable
   low f h = sym (rw (f, h))
 
@@ -25,7 +27,7 @@ module _ (k : GwrKernel) (d b : Float) where
   usual f h e = sym (rw (f, h, e))
 
 pub weight-spec : {M : Type 1} → statement M
-unfolding exponentialWeight
+unfolding exponentialFormula
 weight-spec =
     tie.close
     (tie.spec

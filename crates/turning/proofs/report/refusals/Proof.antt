@@ -5,10 +5,10 @@ use Rattle.turning.proofs.report.refusals.Statement.{statement}
 use Rattle.turning.proofs.report.refusals.Tie as tie
 
 abbrev Inv-loop : tie.InvT-loop
-Inv-loop word counts k₀ t6 k = k ≤ 22
+Inv-loop word counts k₀ t6 k = k ≤ 100
 
 abbrev μ-loop : tie.MeasureT-loop
-μ-loop word counts k₀ t6 k = 22 - k
+μ-loop word counts k₀ t6 k = 100 - k
 
 pub refusals-spec : {M : Type 1} → statement M
 refusals-spec =

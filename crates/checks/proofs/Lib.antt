@@ -1,0 +1,3 @@
+pub mod Judge
+pub mod Means
+pub mod Tests

@@ -1,0 +1,109 @@
+-- The byte calls and the printing program: what is served.
+use mathlib.Core.Path.{_≡_, refl, ap, subst, subst⁻¹, _∙_}
+use mathlib.Core.List.{List}
+use mathlib.Core.Logic.{_⊎_, inl, inr}
+use Prim.Native.Nat.{ℕ, _+_, _*_, _/_, _≤_}
+use native.Mathlib.Omega.{arith}
+use lib.ListN.{length, take, replicate}
+use lib.Ieee.{Float}
+use Rattle.real.specs.Reals.{zero64}
+use Rattle.refusal.specs.declared.Refusal.{Refusal}
+use Rattle.refusal.specs.declared.Refusal.the-variants.{Singular, InverseNotFinite, CoefficientNotFinite}
+use Rattle.refusal.specs.Numbers.{refusalNumber}
+use Rattle.checks.specs.Judge.{NoneOf, Decides}
+use Rattle.kernel.specs.declared.GwrKernel.{GwrKernel}
+use Rattle.kernel.specs.Weight.{weightOf}
+use Rattle.setup.specs.declared.GwrBandwidth.{GwrBandwidth}
+use Rattle.setup.specs.declared.GwrOptions.{GwrOptions}
+use Rattle.setup.specs.declared.Setup.{Setup}
+use Rattle.setup.specs.Data.{Data}
+use Rattle.local.specs.declared.Outcome.{Outcome}
+use Rattle.local.specs.Solve.{solveLocation}
+use Rattle.local.proofs.Refusals.{AtLocation, OutcomeAt, location-at}
+use Rattle.criterion.specs.declared.Criterion.{Criterion}
+use Rattle.criterion.specs.declared.Criterion.the-variants as criterion
+use Rattle.criterion.specs.Published.{deviation}
+use Rattle.criterion.specs.Aicc.{correctedAic}
+use Rattle.real.specs.Arithmetic.{rounded}
+use Rattle.real.specs.Reals.{fromCount}
+use Rattle.root.specs.Root.{root}
+use lib.Ieee.Scale.{finite}
+use Rattle.sweep.specs.declared.Finish.the-variants as finish
+use Rattle.sweep.specs.Finish.{finishOf}
+use Rattle.gwr.specs.declared.FitAnswer.{FitAnswer}
+use Rattle.gwr.specs.declared.FitAnswer.the-variants as fit
+use Rattle.wire.specs.Wire.{realOf}
+use Rattle.calls.specs.declared.KernelChoice.the-variants as choice
+use Rattle.calls.specs.Options.{kernelOf, namedKernel, optionsOf, named}
+use Rattle.calls.specs.Calls.{AfterCall, numbersOf, callTests, placedRows, answerBytes, fittedBytes, numbersFit, fitBytes, weightTests, refusedWeight, givenWeight, weightBytes}
+use Rattle.calls.proofs.Judged.{call-decides, weight-decides}
+use Rattle.calls.proofs.Served.{call-passed, call-untouched}
+use Rattle.calls.proofs.Meanings.{weight-known}
+use Rattle.claims.specs.DemandOne.{residualSquares, leverageTrace, FitAnswered, JobServed, BytesServed}
+use Rattle.claims.proofs.Cases.{either}
+use Rattle.claims.proofs.one.Deciding.{fit-decides}
+
+-- ---- a fit that is served is fitted, or failed with 14 to 17
+
+abbrev InRange : Refusal → Type 0
+InRange r = (14 ≤ refusalNumber r) × (refusalNumber r ≤ 17)
+
+location-number : (r : Refusal) → AtLocation r → InRange r
+location-number r (inl e) = subst⁻¹ InRange e (omega arith, omega arith)
+location-number r (inr (inl e)) = subst⁻¹ InRange e (omega arith, omega arith)
+location-number r (inr (inr e)) = subst⁻¹ InRange e (omega arith, omega arith)
+
+abbrev Said : FitAnswer → Type 0
+Said (fit.Done (finish.Fitted v)) = Unit {0}
+Said (fit.Done (finish.Failed r v)) = InRange r
+Said (fit.Rejected r) = ⊥
+
+aic-said : (u : Setup) (rss trace : Float) (b : GwrBandwidth) (solves : ℕ) → Said (fit.Done (finishOf (correctedAic u rss trace) b solves))
+unfolding correctedAic
+aic-said u rss trace b solves = either (λ (c : Criterion). Said (fit.Done (finishOf c b solves))) (finite (deviation rounded root (fromCount (u .n)) rss)) _ _ tt (omega arith, omega arith)
+
+answer-said : (u : Setup) (d : Data) (b : GwrBandwidth) (searched : ℕ) (a : FitAnswer) (rows : ℕ) → FitAnswered a (λ (i : ℕ). solveLocation u d b i .outcome) b searched rows u → Said a
+answer-said u d b searched a rows (inl (l, r, e, h)) = subst⁻¹ Said h (location-number r (subst OutcomeAt e (location-at u d b rows)))
+answer-said u d b searched a rows (inr (l, h)) = subst⁻¹ Said h (aic-said u _ _ b (searched + u .n))
+
+number-in : (a : FitAnswer) (rows : List Float) (out summary : List ℕ) → Said a → let z = answerBytes a rows out summary .0 in (z ≡ 0) ⊎ ((14 ≤ z) × (z ≤ 17))
+unfolding placedRows
+number-in (fit.Done (finish.Fitted v)) rows out summary h = inl refl
+number-in (fit.Done (finish.Failed r v)) rows out summary h = inr h
+number-in (fit.Rejected r) rows out summary h = absurd h
+
+-- ---- the fit call
+
+module _ (coords x y : List ℕ) (p kernel kind bandwidth : ℕ) (out summary : List ℕ) where
+  abbrev o : GwrOptions
+  o = named (optionsOf kernel kind bandwidth)
+
+  abbrev a : AfterCall
+  a = fitBytes coords x y p kernel kind bandwidth out summary
+
+  served : NoneOf (callTests coords x y p kernel kind bandwidth (length out) (length summary)) → BytesServed coords x y p o out summary a
+  served h =
+      let f = numbersFit coords x y p o in
+      let e = call-decides coords x y p out summary kernel kind bandwidth .served h in
+      let job = fit-decides (numbersOf coords x y p) p o (replicate (length coords / 16 * (p + 4)) zero64) .served (call-passed coords x y p kernel kind bandwidth out summary h .fitted) in
+      let t = call-untouched coords x y p kernel kind bandwidth out summary h in
+      record {
+        numbers = job;
+        placed-in = e;
+        number = subst⁻¹ (λ (z : AfterCall). (z .0 ≡ 0) ⊎ ((14 ≤ z .0) × (z .0 ≤ 17))) e (number-in (f .0 .answer) (take (f .0 .rows * (p + 4)) (f .1)) out summary (answer-said _ _ _ _ _ _ (job .answered)));
+        untouched = t .rows;
+        summary-untouched = t .sums;
+        long = t .long;
+      }
+
+  pub fit-call-decides : Decides (callTests coords x y p kernel kind bandwidth (length out) (length summary)) (λ (r : Refusal). a ≡ (refusalNumber r, (out, summary))) (BytesServed coords x y p o out summary a)
+  fit-call-decides = record { refused = call-decides coords x y p out summary kernel kind bandwidth .refused; served = served }
+
+-- ---- the weight call
+
+pub weight-call-decides : (kernel d b : ℕ) (out : List ℕ)
+    → Decides (weightTests kernel d (length out)) (λ (r : Refusal). weightBytes kernel d b out ≡ refusedWeight r out)
+    ((k : GwrKernel) × (kernelOf kernel ≡ choice.Known k) × (weightBytes kernel d b out ≡ givenWeight (weightOf k (realOf d) (realOf b)) out))
+weight-call-decides kernel d b out =
+    let w = weight-decides kernel d b out in
+    record { refused = w .refused; served = λ h. (namedKernel (kernelOf kernel), weight-known kernel d (length out) h, w .served h) }

@@ -1,0 +1,44 @@
+-- `estimate::inverse::inverse_row_finite` meets its contract.
+use borrow.Author.Needs.{needs}
+use Prim.Native.Nat.{_-_}
+use mathlib.Core.Path.{_∙_}
+use Rattle.real.proofs.Fold.{Range, none, more, done}
+use mathlib.Core.Bool.{true}
+use lib.Ieee.Scale.{finite}
+use Rattle.estimate.specs.Inverse.{inverseCell, allStep, allBelow, inverseRowFinite}
+use Rattle.estimate.proofs.inverse.inverse_row_finite.Statement.{statement}
+use Rattle.estimate.proofs.inverse.inverse_row_finite.Tie as tie
+
+abbrev Inv-loop : tie.InvT-loop
+Inv-loop a p m good₀ q₀ good q = Range (allStep (λ k. finite (inverseCell a m p k))) true 0 m q good
+
+abbrev μ-loop : tie.MeasureT-loop
+μ-loop a p m good₀ q₀ good q = m - q
+
+loop-holds : tie.Need-loop-holds Inv-loop μ-loop
+loop-holds c = none (search needs)
+
+loop-again : tie.Need-loop-again Inv-loop μ-loop
+unfolding inverseCell allStep
+loop-again c = more (c .before .before .before .before .loop .inv) (search needs) (c .both .ensures ∙ rw (c .before .is-finite .ensures))
+
+returns : tie.Need-returns Inv-loop μ-loop
+unfolding allBelow inverseRowFinite
+returns c = done (c .before .loop .inv) (search needs)
+
+pub inverse-row-finite-spec : {M : Type 1} → statement M
+inverse-row-finite-spec =
+    tie.close
+    (tie.spec Inv-loop μ-loop
+    loop-holds
+    (λ c. search needs)
+    (λ c. search needs)
+    (λ c. search needs)
+    (λ c. search needs)
+    (λ c. search needs)
+    (λ c κs. search needs)
+    (λ c κs. search needs)
+    (λ c. search needs)
+    (λ c. search needs)
+    loop-again
+    returns)

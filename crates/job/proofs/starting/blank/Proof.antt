@@ -1,0 +1,10 @@
+-- `job::starting::blank`: a job that has made nothing, of no size.
+use borrow.Author.Needs.{needs}
+use Rattle.job.proofs.starting.blank.Statement.{statement}
+use Rattle.job.proofs.starting.blank.Tie as tie
+
+returns : tie.Need-returns
+returns c = rw (← c .before .none .ensures) (c .fresh .ensures)
+
+pub blank-spec : {M : Type 1} → statement M
+blank-spec = tie.close (tie.spec (λ c κs. search needs) (λ c κs. search needs) returns)

@@ -1,0 +1,18 @@
+-- `neighbours::nearest_from` meets its contract.
+use borrow.Author.Needs.{needs}
+use Rattle.neighbours.proofs.Selects.{root-found}
+use Rattle.neighbours.proofs.nearest_from.Statement.{statement}
+use Rattle.neighbours.proofs.nearest_from.Tie as tie
+
+returns : tie.Need-returns
+returns c = search (needs, root-found)
+
+pub nearest-from-spec : {M : Type 1} → statement M
+nearest-from-spec =
+    tie.close
+    (tie.spec
+    (λ c κs. search needs)
+    (λ c κs. search needs)
+    returns
+    (λ c κs. search needs)
+    (λ c. search needs))

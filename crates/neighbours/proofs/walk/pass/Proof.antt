@@ -1,0 +1,31 @@
+-- `neighbours::walk::pass` meets its contract.
+use borrow.Author.Needs.{needs}
+use Rattle.neighbours.specs.Walk.{distanceFrom}
+use Rattle.neighbours.proofs.Walks.{stays, goes}
+use Rattle.neighbours.proofs.walk.pass.Statement.{statement}
+use Rattle.neighbours.proofs.walk.pass.Tie as tie
+
+returns : tie.Need-returns
+returns c = search (needs, stays)
+
+returns-2 : tie.Need-returns-2
+unfolding distanceFrom
+returns-2 c = search (needs, goes)
+
+pub pass-spec : {M : Type 1} → statement M
+pass-spec =
+    tie.close
+    (tie.spec
+    (λ c κs. search needs)
+    returns
+    (λ c. search needs)
+    (λ c. search needs)
+    (λ c. search needs)
+    (λ c. search needs)
+    (λ c. search needs)
+    (λ c. search needs)
+    (λ c. search needs)
+    (λ c κs. search needs)
+    (λ c κs. search needs)
+    (λ c. search needs)
+    returns-2)

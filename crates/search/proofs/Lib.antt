@@ -1,0 +1,4 @@
+pub mod Solves
+pub mod Memos
+pub mod Searches
+pub mod Literal

@@ -1,0 +1,4 @@
+pub mod Trial
+pub mod Memo
+pub mod Search
+pub mod Literal

@@ -1,0 +1,25 @@
+-- `selection::greatest_below` meets its contract.
+use Prim.Native.Nat.{_-_, _≤_}
+use borrow.Author.Needs.{needs}
+use Rattle.selection.proofs.greatest_below.Statement.{statement}
+use Rattle.selection.proofs.greatest_below.Tie as tie
+
+abbrev Inv-loop : tie.InvT-loop
+Inv-loop s n hi g₀ j₀ g j = j ≤ n
+
+abbrev μ-loop : tie.MeasureT-loop
+μ-loop s n hi g₀ j₀ g j = n - j
+
+pub greatest-below-spec : {M : Type 1} → statement M
+greatest-below-spec =
+    tie.close
+    (tie.spec Inv-loop μ-loop
+    (λ c. search needs)
+    (λ c. search needs)
+    (λ c. search needs)
+    (λ c κs. search needs)
+    (λ c κs. search needs)
+    (λ c. search needs)
+    (λ c. search needs)
+    (λ c. search needs)
+    (λ c. search needs))

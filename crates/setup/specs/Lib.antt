@@ -1,0 +1,4 @@
+pub mod Bandwidth
+pub mod Options
+pub mod Data
+pub mod Shape

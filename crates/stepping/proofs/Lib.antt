@@ -1,0 +1,3 @@
+pub mod Sounds
+pub mod Steps
+pub mod Keeping
