@@ -32,8 +32,8 @@ use Rattle.stepping.specs.declared.Job.{Job}
 use Rattle.stepping.specs.Step.{freshJob}
 use Rattle.stepping.specs.Sound.{OfKind, TrialsAt, Sound}
 use Rattle.stepping.proofs.Keeping.{kind-at, Holds}
-use Rattle.job.specs.declared.Beginning.the-variants as beginning
-use Rattle.job.specs.Begin.{startJob, begunWith, beginOf}
+use Rattle.starting.specs.declared.Beginning.the-variants as beginning
+use Rattle.starting.specs.Begin.{startJob, begunWith, beginOf}
 use Rattle.job.specs.Turn.{lentTests}
 use Rattle.claims.proofs.Cases.{either}
 

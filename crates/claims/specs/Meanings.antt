@@ -26,7 +26,7 @@ use Rattle.stepping.specs.declared.Stage.{Stage}
 use Rattle.stepping.specs.declared.Stage.the-variants.{Ended}
 use Rattle.stepping.specs.Step.{isEnded}
 use Rattle.stepping.specs.Sound.{OfKind}
-use Rattle.job.specs.Fitness.{kindsFit}
+use Rattle.fitness.specs.Fitness.{kindsFit}
 use Rattle.calls.specs.Options.{isUnknown, optionsOf}
 
 -- P of some number below m

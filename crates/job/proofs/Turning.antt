@@ -34,9 +34,9 @@ use Rattle.job.specs.declared.Answer.{Answer}
 use Rattle.job.specs.declared.Answer.the-variants as answer
 use Rattle.job.specs.declared.Turned.{Turned}
 use Rattle.job.specs.Run.{run}
-use Rattle.job.specs.Fitness.{isFit}
+use Rattle.fitness.specs.Fitness.{isFit}
 use Rattle.job.specs.Turn.{lentTests, turnTests, answerAt, tellOf, ranOf, runOf, refusedTurn, turnOf}
-use Rattle.job.proofs.Fits.{fit-means}
+use Rattle.fitness.proofs.Fits.{fit-means}
 use Rattle.job.proofs.Runs.{Running, running-none, running-more, running-over, running-spent}
 
 -- ---- what is lent

@@ -19,7 +19,7 @@ use Rattle.job.specs.declared.Answer.{Answer}
 use Rattle.job.specs.declared.Answer.the-variants as answer
 use Rattle.job.specs.declared.Turned.{Turned}
 use Rattle.job.specs.Run.{run}
-use Rattle.job.specs.Fitness.{isFit}
+use Rattle.fitness.specs.Fitness.{isFit}
 
 -- ---- the refusals of a turn, where out is the output's length
 

@@ -21,11 +21,11 @@ use Rattle.plan.proofs.Accepted.{accept-decides}
 use Rattle.gwr.specs.declared.Fit.{Fit}
 use Rattle.gwr.specs.declared.FitAnswer.the-variants as fit
 use Rattle.gwr.specs.Fit.{answered, gwrFit}
-use Rattle.job.specs.declared.Beginning.the-variants as beginning
-use Rattle.job.specs.declared.Begun.{Begun}
-use Rattle.job.specs.Fitness.{sizesFit, isFit}
-use Rattle.job.specs.Begin.{begunWith, beginOf}
-use Rattle.job.proofs.Fits.{fit-means}
+use Rattle.starting.specs.declared.Beginning.the-variants as beginning
+use Rattle.starting.specs.declared.Begun.{Begun}
+use Rattle.fitness.specs.Fitness.{sizesFit, isFit}
+use Rattle.starting.specs.Begin.{begunWith, beginOf}
+use Rattle.fitness.proofs.Fits.{fit-means}
 use Rattle.claims.specs.Whole.{toFinal}
 use Rattle.claims.specs.Turns.{AllLawful}
 use Rattle.claims.specs.DemandOne.{JobServed, BeginRefused, BeginServed}

@@ -12,7 +12,7 @@ use Rattle.plan.proofs.Meanings.{not-finite-means, unusable-distance-means, no-
 use Rattle.stepping.specs.declared.Stage.{Stage}
 use Rattle.stepping.specs.declared.Stage.the-variants.{First, Second, Round, Final, Ended}
 use Rattle.stepping.specs.Step.{isEnded}
-use Rattle.job.proofs.Fits.{kinds-means}
+use Rattle.fitness.proofs.Fits.{kinds-means}
 use Rattle.calls.proofs.Meanings.{unknown-means, distance-means}
 use Rattle.claims.specs.Meanings.{Meanings}
 use Rattle.claims.proofs.Cases.{never}

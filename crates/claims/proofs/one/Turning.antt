@@ -34,7 +34,7 @@ use Rattle.stepping.proofs.Keeping.{Holds, sound-held, holds-step}
 use Rattle.job.specs.declared.Answer.the-variants as answer
 use Rattle.job.specs.Run.{run}
 use Rattle.job.specs.Turn.{turnTests, answerAt, runOf, turnOf}
-use Rattle.job.proofs.Fits.{fit-means}
+use Rattle.fitness.proofs.Fits.{fit-means}
 use Rattle.job.proofs.Runs.{run-few, run-keeps}
 use Rattle.job.proofs.Turning as turns
 use Rattle.claims.specs.Turns.{JobState}

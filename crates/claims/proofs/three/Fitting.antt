@@ -27,7 +27,7 @@ use Rattle.gwr.specs.declared.FitAnswer.the-variants as fit
 use Rattle.gwr.specs.Fit.{finalOf, soughtOf, planned}
 use Rattle.stepping.specs.declared.Stage.the-variants.{Final}
 use Rattle.stepping.specs.Step.{stepOf, isOver}
-use Rattle.job.specs.Begin.{startJob}
+use Rattle.starting.specs.Begin.{startJob}
 use Rattle.job.specs.Run.{steps}
 use Rattle.job.specs.Turn.{answerAt}
 use Rattle.claims.specs.Written.{rowsEnded, writtenRows}

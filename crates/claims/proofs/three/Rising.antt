@@ -20,7 +20,7 @@ use Rattle.stepping.specs.Step.{isEnded, isLastRound, closeAt, closeJob, solved
 use Rattle.stepping.proofs.Sounds.{sound-few}
 use Rattle.stepping.proofs.Keeping.{Holds}
 use Rattle.job.specs.Run.{steps}
-use Rattle.job.proofs.Fits.{ended-few}
+use Rattle.fitness.proofs.Fits.{ended-few}
 use Rattle.claims.specs.Turns.{JobState, settled}
 use Rattle.claims.proofs.Cases.{either, never}
 use Rattle.claims.proofs.three.Leading.{Leads}

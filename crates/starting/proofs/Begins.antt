@@ -16,8 +16,8 @@ use Rattle.plan.specs.Plan.{acceptOf}
 use Rattle.stepping.specs.declared.Stage.the-variants.{First, Final}
 use Rattle.stepping.specs.declared.Job.{Job}
 use Rattle.stepping.specs.Step.{freshJob}
-use Rattle.job.specs.declared.Begun.{Begun}
-use Rattle.job.specs.Begin.{startJob, begunWith, beginOf}
+use Rattle.starting.specs.declared.Begun.{Begun}
+use Rattle.starting.specs.Begin.{startJob, begunWith, beginOf}
 use lib.Ieee.{Float}
 
 pub start-settled : (u : Setup) (q : Plan) (b : GwrBandwidth) (g : Bracket) (r : Job) → q ≡ Settled b → g ≡ noBracket → r ≡ freshJob u Final g b → r ≡ startJob u q

@@ -4,17 +4,12 @@ ghost use mathlib.Core.Bool.{_&&_};
 ghost use Prim.Native.Nat.{_≤_, _<_};
 ghost use lib.Dec.{leb};
 ghost use Rattle.setup.specs.Shape.{Sized};
-ghost use Rattle.job.specs.Fitness.{sizesFit, kindsFit, trialsFit, solvesFit, isFit};
+ghost use Rattle.fitness.specs.Fitness.{sizesFit, kindsFit, trialsFit, solvesFit, isFit};
+use real::both;
 use setup::GwrBandwidth;
 use setup::Setup;
 use stepping::Job;
 use stepping::Stage;
-
-fn both(a: bool, b: bool) -> bool
-    ensures { λ r. ⌜ r ≡ (a && b) ⌝ }
-{
-    if a { b } else { false }
-}
 
 // Whether sizes and location are within the limits.
 fn sizes_fit(u: Setup, location: usize) -> bool

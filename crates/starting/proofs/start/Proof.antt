@@ -1,8 +1,8 @@
 -- `job::starting::start`: by the plan.
 use borrow.Author.Needs.{needs}
-use Rattle.job.proofs.Begins.{start-settled, start-sought}
-use Rattle.job.proofs.starting.start.Statement.{statement}
-use Rattle.job.proofs.starting.start.Tie as tie
+use Rattle.starting.proofs.Begins.{start-settled, start-sought}
+use Rattle.starting.proofs.start.Statement.{statement}
+use Rattle.starting.proofs.start.Tie as tie
 
 returns : tie.Need-returns
 returns c = start-settled _ _ _ _ _ (c .before .before .before .plan .given .1) (c .before .none .ensures) (c .fresh .ensures)

@@ -2,9 +2,9 @@
 use borrow.Author.Needs.{needs}
 use mathlib.Core.Path.{sym, _∙_}
 use Rattle.plan.proofs.Accepted.{accept-planned}
-use Rattle.job.proofs.Begins.{begin-is}
-use Rattle.job.proofs.starting.begin.Statement.{statement}
-use Rattle.job.proofs.starting.begin.Tie as tie
+use Rattle.starting.proofs.Begins.{begin-is}
+use Rattle.starting.proofs.begin.Statement.{statement}
+use Rattle.starting.proofs.begin.Tie as tie
 
 start-requires : tie.Need-start-requires
 start-requires c κs = accept-planned _ _ _ _ (sym (c .before .before .before .accept .ensures) ∙ c .before .accepted2 .given .1) .accepted .shaped .sized

@@ -1,10 +1,10 @@
 -- `job::fitness::is_fit`: part by part; sizes and trials that fit keep the numbers small.
 use borrow.Author.Needs.{needs}
 use mathlib.Core.Path.{sym, _∙_}
-use Rattle.job.specs.Fitness.{isFit}
-use Rattle.job.proofs.Fits.{sizes-means, trials-fit-few}
-use Rattle.job.proofs.fitness.is_fit.Statement.{statement}
-use Rattle.job.proofs.fitness.is_fit.Tie as tie
+use Rattle.fitness.specs.Fitness.{isFit}
+use Rattle.fitness.proofs.Fits.{sizes-means, trials-fit-few}
+use Rattle.fitness.proofs.is_fit.Statement.{statement}
+use Rattle.fitness.proofs.is_fit.Tie as tie
 
 solves-fit-requires : tie.Need-solves-fit-requires
 solves-fit-requires c κs =

@@ -1,8 +1,8 @@
 -- `job::fitness::kinds_fit`: by the two kinds.
 use borrow.Author.Needs.{needs}
-use Rattle.job.specs.Fitness.{kindsFit}
-use Rattle.job.proofs.fitness.kinds_fit.Statement.{statement}
-use Rattle.job.proofs.fitness.kinds_fit.Tie as tie
+use Rattle.fitness.specs.Fitness.{kindsFit}
+use Rattle.fitness.proofs.kinds_fit.Statement.{statement}
+use Rattle.fitness.proofs.kinds_fit.Tie as tie
 
 returns : tie.Need-returns
 unfolding kindsFit

@@ -3,17 +3,27 @@ ghost use mathlib.Core.Path.{_≡_};
 ghost use lib.ListN.{length};
 ghost use Rattle.setup.specs.Data.{dataOf};
 ghost use Rattle.setup.specs.Shape.{Sized};
-ghost use Rattle.job.specs.Begin.{blankJob, startJob, beginOf};
-use super::Beginning;
-use super::Begun;
+ghost use Rattle.starting.specs.Begin.{blankJob, startJob, beginOf};
 use golden::Bracket;
 use plan::Acceptance;
 use plan::Plan;
+use refusal::Refusal;
 use setup::GwrBandwidth;
 use setup::GwrOptions;
 use setup::Setup;
 use stepping::Job;
 use stepping::Stage;
+
+// What beginning answers; a refused one makes no job.
+pub enum Beginning {
+    Ready,
+    Refused(Refusal),
+}
+
+pub struct Begun {
+    pub answer: Beginning,
+    pub job: Job,
+}
 
 // A record that every turn refuses.
 fn blank(options: GwrOptions) -> Job

@@ -1,7 +1,7 @@
 -- `job::starting::blank`: a job that has made nothing, of no size.
 use borrow.Author.Needs.{needs}
-use Rattle.job.proofs.starting.blank.Statement.{statement}
-use Rattle.job.proofs.starting.blank.Tie as tie
+use Rattle.starting.proofs.blank.Statement.{statement}
+use Rattle.starting.proofs.blank.Tie as tie
 
 returns : tie.Need-returns
 returns c = rw (← c .before .none .ensures) (c .fresh .ensures)

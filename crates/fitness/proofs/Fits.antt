@@ -19,7 +19,7 @@ use Rattle.stepping.specs.Step.{isEnded, endedSolve, stepJob}
 use Rattle.stepping.specs.Sound.{OfKind, TrialsAt, Sound}
 use Rattle.stepping.proofs.Sounds.{trials-few}
 use Rattle.stepping.proofs.Keeping.{step-held}
-use Rattle.job.specs.Fitness.{sizesFit, kindsFit, trialsFit, solvesFit, isFit}
+use Rattle.fitness.specs.Fitness.{sizesFit, kindsFit, trialsFit, solvesFit, isFit}
 
 most-means : (a b : ℕ) → Means (leb a b) (a ≤ b)
 most-means a b = (leb-true a b, le-leb a b)

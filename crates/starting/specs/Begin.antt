@@ -15,8 +15,8 @@ use Rattle.plan.specs.Plan.{acceptOf}
 use Rattle.stepping.specs.declared.Stage.the-variants.{First, Final}
 use Rattle.stepping.specs.declared.Job.{Job}
 use Rattle.stepping.specs.Step.{freshJob}
-use Rattle.job.specs.declared.Beginning.the-variants.{Ready, Refused}
-use Rattle.job.specs.declared.Begun.{Begun}
+use Rattle.starting.specs.declared.Beginning.the-variants.{Ready, Refused}
+use Rattle.starting.specs.declared.Begun.{Begun}
 
 -- a record that every turn refuses: a refused beginning makes no job
 abbrev pub blankJob : GwrOptions → Job

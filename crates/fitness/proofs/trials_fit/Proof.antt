@@ -1,8 +1,8 @@
 -- `job::fitness::trials_fit`: by the stage.
 use borrow.Author.Needs.{needs}
-use Rattle.job.specs.Fitness.{trialsFit}
-use Rattle.job.proofs.fitness.trials_fit.Statement.{statement}
-use Rattle.job.proofs.fitness.trials_fit.Tie as tie
+use Rattle.fitness.specs.Fitness.{trialsFit}
+use Rattle.fitness.proofs.trials_fit.Statement.{statement}
+use Rattle.fitness.proofs.trials_fit.Tie as tie
 
 returns : tie.Need-returns
 unfolding trialsFit

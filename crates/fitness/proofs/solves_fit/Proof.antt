@@ -2,10 +2,10 @@
 use borrow.Author.Needs.{needs}
 use native.Mathlib.Omega.{arith}
 use Rattle.stepping.proofs.Sounds.{most-solves}
-use Rattle.job.specs.Fitness.{solvesFit}
-use Rattle.job.proofs.Fits.{ended-few}
-use Rattle.job.proofs.fitness.solves_fit.Statement.{statement}
-use Rattle.job.proofs.fitness.solves_fit.Tie as tie
+use Rattle.fitness.specs.Fitness.{solvesFit}
+use Rattle.fitness.proofs.Fits.{ended-few}
+use Rattle.fitness.proofs.solves_fit.Statement.{statement}
+use Rattle.fitness.proofs.solves_fit.Tie as tie
 
 mul-most : tie.Need-mul-most
 mul-most c = omega (arith, most-solves _ _ _ (c .before .pre .1 .1) (c .before .pre .0 .few) (c .before .pre .1 .0))

@@ -1,9 +1,9 @@
 -- `job::fitness::sizes_fit`: limit by limit.
 use borrow.Author.Needs.{needs}
 use borrow.Author.Tests.{le-leb, lt-leb}
-use Rattle.job.specs.Fitness.{sizesFit}
-use Rattle.job.proofs.fitness.sizes_fit.Statement.{statement}
-use Rattle.job.proofs.fitness.sizes_fit.Tie as tie
+use Rattle.fitness.specs.Fitness.{sizesFit}
+use Rattle.fitness.proofs.sizes_fit.Statement.{statement}
+use Rattle.fitness.proofs.sizes_fit.Tie as tie
 
 returns : tie.Need-returns
 unfolding sizesFit
