@@ -27,7 +27,7 @@ use Rattle.stepping.specs.declared.Stage.the-variants.{Ended}
 use Rattle.stepping.specs.Step.{isEnded}
 use Rattle.stepping.specs.Sound.{OfKind}
 use Rattle.fitness.specs.Fitness.{kindsFit}
-use Rattle.calls.specs.Options.{isUnknown, optionsOf}
+use Rattle.request.specs.Options.{isUnknown, optionsOf}
 
 -- P of some number below m
 abbrev pub Some : ℕ → (ℕ → Type 0) → Type 0

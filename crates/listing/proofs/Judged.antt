@@ -27,9 +27,11 @@ use Rattle.plan.specs.Checks.{valueTests, optionTests, fitTests}
 use Rattle.gwr.specs.declared.Fit.{Fit}
 use Rattle.gwr.specs.Fit.{gwrFit}
 use Rattle.gwr.proofs.Bounds.{Sound, fits}
-use Rattle.calls.specs.Options.{optionsOf, isUnknown}
-use Rattle.calls.specs.Calls.{byteTests, numbersOf, lentTooShort, numberTests, callTests, AfterCall, refusedCall, fittedBytes, numbersFit, fitBytes, ByteLengths}
-use Rattle.calls.proofs.Judged.{lengths-pass, call-decides}
+use Rattle.request.specs.Options.{optionsOf, isUnknown}
+use Rattle.calls.specs.Calls.{numbersOf, lentTooShort, numberTests, callTests, AfterCall, refusedCall, fittedBytes, numbersFit, fitBytes}
+use Rattle.request.specs.Lengths.{byteTests, ByteLengths}
+use Rattle.calls.proofs.Judged.{call-decides}
+use Rattle.request.proofs.Lengths.{lengths-pass}
 use Rattle.calls.proofs.Served.{call-passed}
 use Rattle.listing.specs.declared.Head.{Head}
 use Rattle.listing.specs.declared.Header.the-variants.{Whole, Refused}

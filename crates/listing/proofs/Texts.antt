@@ -18,9 +18,9 @@ use Rattle.checks.specs.declared.Check.{Check}
 use Rattle.checks.specs.declared.Check.the-variants as check
 use Rattle.checks.specs.Judge.{judge, ruled, FirstOf, NoneOf}
 use Rattle.checks.proofs.Judge.{ruled-refused, ruled-pass, none-head}
-use Rattle.calls.specs.declared.Choice.{Choice}
-use Rattle.calls.specs.declared.Choice.the-variants as choice
-use Rattle.calls.specs.Options.{optionsOf, isUnknown}
+use Rattle.request.specs.declared.Choice.{Choice}
+use Rattle.request.specs.declared.Choice.the-variants as choice
+use Rattle.request.specs.Options.{optionsOf, isUnknown}
 use Rattle.calls.specs.Calls.{AfterCall, fitBytes}
 use Rattle.calls.proofs.Counts.{Answered, answered}
 use Rattle.listing.specs.declared.Head.{Head}

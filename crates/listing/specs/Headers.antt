@@ -8,7 +8,7 @@ use Rattle.wire.specs.Wire.{loadOf}
 use Rattle.refusal.specs.declared.Refusal.{Refusal}
 use Rattle.refusal.specs.declared.Refusal.the-variants.{NoCoordinates, TooManyObservations, TooManyPredictors, UnknownNumber}
 use Rattle.checks.specs.Judge.{judge, ruled}
-use Rattle.calls.specs.Options.{optionsOf, isUnknown}
+use Rattle.request.specs.Options.{optionsOf, isUnknown}
 use Rattle.listing.specs.declared.Head.{Head}
 use Rattle.listing.specs.declared.Header.{Header}
 use Rattle.listing.specs.declared.Header.the-variants.{Whole, Refused}

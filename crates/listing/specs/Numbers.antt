@@ -19,7 +19,7 @@ use Rattle.gwr.specs.declared.FitAnswer.{FitAnswer}
 use Rattle.gwr.specs.declared.FitAnswer.the-variants.{Done, Rejected}
 use Rattle.gwr.specs.declared.Fit.{Fit}
 use Rattle.gwr.specs.Fit.{gwrFit}
-use Rattle.calls.specs.Options.{optionsOf, named}
+use Rattle.request.specs.Options.{optionsOf, named}
 use Rattle.listing.specs.declared.Head.{Head}
 use Rattle.listing.specs.Headers.{headOf, headerTests}
 use Rattle.listing.specs.Jobs.{placesEnd, predictorsEnd, cutTests, refusedText}

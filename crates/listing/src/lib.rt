@@ -8,9 +8,9 @@ ghost use Rattle.checks.specs.Judge.{judge};
 ghost use Rattle.listing.specs.Headers.{sizedHeader, headerOf, partsLen};
 ghost use Rattle.listing.specs.Jobs.{responsesEnd, cutTests, answerText, wholeText, jobText};
 ghost use Rattle.listing.specs.Printed.{printed, asked};
-use calls::Choice;
 use checks::Check;
 use refusal::Refusal;
+use request::Choice;
 
 // The five numbers of a whole header that is not refused.
 pub struct Head {
@@ -59,7 +59,7 @@ pub fn header_of(s: &[u8]) -> Header
     if s.len() < 40 {
         return Header::Refused(Refusal::NoCoordinates);
     }
-    let choice = calls::options_of(wire::load(s, 16), wire::load(s, 24), wire::load(s, 32));
+    let choice = request::options_of(wire::load(s, 16), wire::load(s, 24), wire::load(s, 32));
     match choice {
         Choice::Unknown => Header::Refused(Refusal::UnknownNumber),
         Choice::Known(_) => sized_header(s),

@@ -33,12 +33,14 @@ use Rattle.sweep.specs.Finish.{finishOf}
 use Rattle.gwr.specs.declared.FitAnswer.{FitAnswer}
 use Rattle.gwr.specs.declared.FitAnswer.the-variants as fit
 use Rattle.wire.specs.Wire.{realOf}
-use Rattle.calls.specs.declared.KernelChoice.the-variants as choice
-use Rattle.calls.specs.Options.{kernelOf, namedKernel, optionsOf, named}
-use Rattle.calls.specs.Calls.{AfterCall, numbersOf, callTests, placedRows, answerBytes, fittedBytes, numbersFit, fitBytes, weightTests, refusedWeight, givenWeight, weightBytes}
-use Rattle.calls.proofs.Judged.{call-decides, weight-decides}
+use Rattle.request.specs.declared.KernelChoice.the-variants as choice
+use Rattle.request.specs.Options.{kernelOf, namedKernel, optionsOf, named}
+use Rattle.calls.specs.Calls.{AfterCall, numbersOf, callTests, placedRows, answerBytes, fittedBytes, numbersFit, fitBytes}
+use Rattle.weighing.specs.Weighing.{weightTests, refusedWeight, givenWeight, weightBytes}
+use Rattle.calls.proofs.Judged.{call-decides}
+use Rattle.weighing.proofs.Judged.{weight-decides}
 use Rattle.calls.proofs.Served.{call-passed, call-untouched}
-use Rattle.calls.proofs.Meanings.{weight-known}
+use Rattle.weighing.proofs.Judged.{weight-known}
 use Rattle.claims.specs.DemandOne.{residualSquares, leverageTrace, FitAnswered, JobServed, BytesServed}
 use Rattle.claims.proofs.Cases.{either}
 use Rattle.claims.proofs.one.Deciding.{fit-decides}

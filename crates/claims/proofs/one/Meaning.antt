@@ -13,7 +13,8 @@ use Rattle.stepping.specs.declared.Stage.{Stage}
 use Rattle.stepping.specs.declared.Stage.the-variants.{First, Second, Round, Final, Ended}
 use Rattle.stepping.specs.Step.{isEnded}
 use Rattle.fitness.proofs.Fits.{kinds-means}
-use Rattle.calls.proofs.Meanings.{unknown-means, distance-means}
+use Rattle.weighing.proofs.Judged.{distance-means}
+use Rattle.request.proofs.Options.{unknown-means}
 use Rattle.claims.specs.Meanings.{Meanings}
 use Rattle.claims.proofs.Cases.{never}
 

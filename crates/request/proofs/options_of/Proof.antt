@@ -1,9 +1,9 @@
 -- `calls::options_of`: an unknown kernel leaves the options unknown.
 use borrow.Author.Needs.{needs}
 use mathlib.Core.Path.{refl, sym, _∙_}
-use Rattle.calls.proofs.Answers.{options-are}
-use Rattle.calls.proofs.options_of.Statement.{statement}
-use Rattle.calls.proofs.options_of.Tie as tie
+use Rattle.request.proofs.Options.{options-are}
+use Rattle.request.proofs.options_of.Statement.{statement}
+use Rattle.request.proofs.options_of.Tie as tie
 
 returns : tie.Need-returns
 returns c = options-are _ _ _ _ _ (sym (c .before .before .before .before .kernel-of .ensures) ∙ c .before .before .known .given .1) (c .kind-of .ensures)

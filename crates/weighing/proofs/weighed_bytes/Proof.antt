@@ -2,10 +2,10 @@
 use borrow.Author.Needs.{needs}
 use borrow.Author.Tests.{lt-ltb, le-ltb}
 use mathlib.Core.Path.{refl}
-use Rattle.calls.specs.Calls.{weighedBytes}
-use Rattle.calls.proofs.Answers.{both}
-use Rattle.calls.proofs.weighed_bytes.Statement.{statement}
-use Rattle.calls.proofs.weighed_bytes.Tie as tie
+use Rattle.weighing.specs.Weighing.{weighedBytes}
+use Rattle.weighing.proofs.Judged.{both}
+use Rattle.weighing.proofs.weighed_bytes.Statement.{statement}
+use Rattle.weighing.proofs.weighed_bytes.Tie as tie
 
 returns : tie.Need-returns
 unfolding weighedBytes

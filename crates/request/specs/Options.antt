@@ -9,10 +9,10 @@ use Rattle.setup.specs.declared.GwrBandwidth.{GwrBandwidth}
 use Rattle.setup.specs.declared.GwrBandwidth.the-variants.{Fixed, AdaptiveKnn}
 use Rattle.setup.specs.declared.GwrOptions.{GwrOptions}
 use Rattle.setup.specs.Options.{defaultOptions}
-use Rattle.calls.specs.declared.KernelChoice.{KernelChoice}
-use Rattle.calls.specs.declared.KernelChoice.the-variants as kernel
-use Rattle.calls.specs.declared.Choice.{Choice}
-use Rattle.calls.specs.declared.Choice.the-variants as choice
+use Rattle.request.specs.declared.KernelChoice.{KernelChoice}
+use Rattle.request.specs.declared.KernelChoice.the-variants as kernel
+use Rattle.request.specs.declared.Choice.{Choice}
+use Rattle.request.specs.declared.Choice.the-variants as choice
 
 -- ---- kernels
 

@@ -1,8 +1,8 @@
 -- `calls::kernel_of`: one need for each kernel, and one for the unknown.
 use borrow.Author.Tests.{eq-eqb, ne-eqb}
-use Rattle.calls.specs.Options.{kernelOf}
-use Rattle.calls.proofs.kernel_of.Statement.{statement}
-use Rattle.calls.proofs.kernel_of.Tie as tie
+use Rattle.request.specs.Options.{kernelOf}
+use Rattle.request.proofs.kernel_of.Statement.{statement}
+use Rattle.request.proofs.kernel_of.Tie as tie
 
 returns : tie.Need-returns
 unfolding kernelOf

@@ -1,9 +1,9 @@
 -- `calls::kind_of`: one need for each kind, and one for the unknown.
 use borrow.Author.Needs.{needs}
 use borrow.Author.Tests.{eq-eqb, ne-eqb}
-use Rattle.calls.specs.Options.{kindOf}
-use Rattle.calls.proofs.kind_of.Statement.{statement}
-use Rattle.calls.proofs.kind_of.Tie as tie
+use Rattle.request.specs.Options.{kindOf}
+use Rattle.request.proofs.kind_of.Statement.{statement}
+use Rattle.request.proofs.kind_of.Tie as tie
 
 returns : tie.Need-returns
 unfolding kindOf

@@ -4,9 +4,9 @@ use borrow.Author.Tests.{ne-eqb, lt-ltb, le-ltb}
 use native.Mathlib.Omega.{arith}
 use Rattle.checks.proofs.Tests.{tests}
 use Rattle.checks.specs.Judge.{judge}
-use Rattle.calls.specs.Calls.{byteTests}
-use Rattle.calls.proofs.check_bytes.Statement.{statement}
-use Rattle.calls.proofs.check_bytes.Tie as tie
+use Rattle.request.specs.Lengths.{byteTests}
+use Rattle.request.proofs.check_bytes.Statement.{statement}
+use Rattle.request.proofs.check_bytes.Tie as tie
 
 returns : tie.Need-returns
 unfolding byteTests

@@ -3,9 +3,9 @@ use borrow.Author.Needs.{needs}
 use native.Mathlib.Nat.{mul-le-mul}
 use native.Mathlib.Omega.{arith}
 use Rattle.checks.proofs.Tests.{tests}
-use Rattle.calls.specs.Calls.{partTests}
-use Rattle.calls.proofs.check_part_bytes.Statement.{statement}
-use Rattle.calls.proofs.check_part_bytes.Tie as tie
+use Rattle.request.specs.Lengths.{partTests}
+use Rattle.request.proofs.check_part_bytes.Statement.{statement}
+use Rattle.request.proofs.check_part_bytes.Tie as tie
 
 mul-if1 : tie.Need-mul-if1
 mul-if1 c = omega (arith, mul-le-mul (c .pre .0) (c .pre .1))

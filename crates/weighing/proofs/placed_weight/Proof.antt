@@ -4,10 +4,10 @@ use mathlib.Core.Path.{refl, ap, _∙_}
 use Prim.Native.Nat.{ℕ}
 use denote.Ref.{now}
 use Rattle.wire.specs.Wire.{bytesOf, placed}
-use Rattle.calls.proofs.Bytes.{front-placed}
-use Rattle.calls.proofs.Answers.{both, placed-is}
-use Rattle.calls.proofs.placed_weight.Statement.{statement}
-use Rattle.calls.proofs.placed_weight.Tie as tie
+use Rattle.weighing.proofs.Judged.{front-placed}
+use Rattle.weighing.proofs.Judged.{both, placed-is}
+use Rattle.weighing.proofs.placed_weight.Statement.{statement}
+use Rattle.weighing.proofs.placed_weight.Tie as tie
 
 returns : tie.Need-returns
 returns c = placed-is _ _ _ _ (c .before .before .before .before .before .before .weighed .given .1) (both refl (c .before .before .store .ensures ∙ front-placed _ _ ∙ ap (λ (v : ℕ). placed (now (c .before .before .before .before .before .before .before .before .before .args .out)) 0 (bytesOf v)) (c .before .before .before .bits-of .ensures)))

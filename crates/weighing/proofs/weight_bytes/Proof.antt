@@ -1,10 +1,10 @@
 -- `calls::weight_bytes`: 18, or what the weight of a known kernel comes to.
 use borrow.Author.Needs.{needs}
 use mathlib.Core.Path.{refl, sym, _∙_}
-use Rattle.calls.proofs.Answers.{both}
-use Rattle.calls.proofs.Judged.{weight-unknown, weight-weighed}
-use Rattle.calls.proofs.weight_bytes.Statement.{statement}
-use Rattle.calls.proofs.weight_bytes.Tie as tie
+use Rattle.weighing.proofs.Judged.{both}
+use Rattle.weighing.proofs.Judged.{weight-unknown, weight-weighed}
+use Rattle.weighing.proofs.weight_bytes.Statement.{statement}
+use Rattle.weighing.proofs.weight_bytes.Tie as tie
 
 returns : tie.Need-returns
 returns c = both (c .number .ensures) refl ∙ sym (weight-unknown _ _ _ _ (sym (c .before .before .before .kernel-of .ensures) ∙ c .before .enum-told .given .1))
