@@ -33,13 +33,15 @@ use Rattle.request.specs.Lengths.{byteTests, ByteLengths}
 use Rattle.calls.proofs.Judged.{call-decides}
 use Rattle.request.proofs.Lengths.{lengths-pass}
 use Rattle.calls.proofs.Served.{call-passed}
-use Rattle.listing.specs.declared.Head.{Head}
-use Rattle.listing.specs.declared.Header.the-variants.{Whole, Refused}
-use Rattle.listing.specs.Headers.{headOf, headerTests, headerOf}
-use Rattle.listing.specs.Jobs.{placesEnd, predictorsEnd, responsesEnd, cutTests, refusedText, answerText, callOfParts, wholeText, jobText}
+use Rattle.header.specs.declared.Head.{Head}
+use Rattle.header.specs.declared.Header.the-variants.{Whole, Refused}
+use Rattle.header.specs.Headers.{headOf, headerTests, headerOf}
+use Rattle.listing.specs.Jobs.{refusedText, answerText, callOfParts, wholeText, jobText}
+use Rattle.header.specs.Cuts.{placesEnd, predictorsEnd, responsesEnd, cutTests}
 use Rattle.listing.specs.Printed.{textOf, printed, printedParts}
 use Rattle.listing.specs.Numbers.{dataIn, optionsIn, dataTests, printTests, fitIn, textOfFit}
-use Rattle.listing.proofs.Texts.{refused-text, PassedHeader, header-passed, parts-whole}
+use Rattle.listing.proofs.Texts.{refused-text}
+use Rattle.header.proofs.Heads.{PassedHeader, header-passed, parts-whole}
 use Rattle.listing.proofs.Fronts.{load-front}
 use Rattle.listing.proofs.Numbers.{answer-text}
 

@@ -20,9 +20,10 @@ use Rattle.gwr.specs.declared.FitAnswer.the-variants.{Done, Rejected}
 use Rattle.gwr.specs.declared.Fit.{Fit}
 use Rattle.gwr.specs.Fit.{gwrFit}
 use Rattle.request.specs.Options.{optionsOf, named}
-use Rattle.listing.specs.declared.Head.{Head}
-use Rattle.listing.specs.Headers.{headOf, headerTests}
-use Rattle.listing.specs.Jobs.{placesEnd, predictorsEnd, cutTests, refusedText}
+use Rattle.header.specs.declared.Head.{Head}
+use Rattle.header.specs.Headers.{headOf, headerTests}
+use Rattle.listing.specs.Jobs.{refusedText}
+use Rattle.header.specs.Cuts.{placesEnd, predictorsEnd, cutTests}
 
 -- 01: then coordinates, predictors, responses, 8 bytes each; `parts` is what stands behind the header
 abbrev pub dataIn : Head → List ℕ → Data

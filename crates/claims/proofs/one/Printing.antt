@@ -6,7 +6,7 @@ use lib.ListN.{drop, replicate}
 use Rattle.real.specs.Reals.{zero64}
 use Rattle.refusal.specs.declared.Refusal.{Refusal}
 use Rattle.checks.specs.Judge.{Decides}
-use Rattle.listing.specs.Headers.{headOf}
+use Rattle.header.specs.Headers.{headOf}
 use Rattle.listing.specs.Jobs.{refusedText}
 use Rattle.listing.specs.Printed.{printed}
 use Rattle.listing.specs.Numbers.{dataIn, optionsIn, printTests}

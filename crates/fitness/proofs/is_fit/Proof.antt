@@ -1,4 +1,4 @@
--- `job::fitness::is_fit`: part by part; sizes and trials that fit keep the numbers small.
+-- `fitness::is_fit`: part by part; sizes and trials that fit keep the numbers small.
 use borrow.Author.Needs.{needs}
 use mathlib.Core.Path.{sym, _∙_}
 use Rattle.fitness.specs.Fitness.{isFit}

@@ -1,4 +1,4 @@
--- `job::fitness::kinds_fit`: by the two kinds.
+-- `fitness::kinds_fit`: by the two kinds.
 use borrow.Author.Needs.{needs}
 use Rattle.fitness.specs.Fitness.{kindsFit}
 use Rattle.fitness.proofs.kinds_fit.Statement.{statement}

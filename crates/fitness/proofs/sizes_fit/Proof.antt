@@ -1,4 +1,4 @@
--- `job::fitness::sizes_fit`: limit by limit.
+-- `fitness::sizes_fit`: limit by limit.
 use borrow.Author.Needs.{needs}
 use borrow.Author.Tests.{le-leb, lt-leb}
 use Rattle.fitness.specs.Fitness.{sizesFit}

@@ -1,4 +1,4 @@
--- `job::fitness::solves_fit`: trials and a location make no large number.
+-- `fitness::solves_fit`: trials and a location make no large number.
 use borrow.Author.Needs.{needs}
 use native.Mathlib.Omega.{arith}
 use Rattle.stepping.proofs.Sounds.{most-solves}

@@ -1,4 +1,4 @@
--- `job::fitness::trials_fit`: by the stage.
+-- `fitness::trials_fit`: by the stage.
 use borrow.Author.Needs.{needs}
 use Rattle.fitness.specs.Fitness.{trialsFit}
 use Rattle.fitness.proofs.trials_fit.Statement.{statement}

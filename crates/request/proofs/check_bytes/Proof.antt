@@ -1,4 +1,4 @@
--- `calls::check_bytes` meets its contract: its tests are the list's, in order.
+-- `request::check_bytes` meets its contract: its tests are the list's, in order.
 use borrow.Author.Needs.{needs}
 use borrow.Author.Tests.{ne-eqb, lt-ltb, le-ltb}
 use native.Mathlib.Omega.{arith}

@@ -1,4 +1,4 @@
--- `calls::check_part_bytes` meets its contract: its tests are the list's, in order.
+-- `request::check_part_bytes` meets its contract: its tests are the list's, in order.
 use borrow.Author.Needs.{needs}
 use native.Mathlib.Nat.{mul-le-mul}
 use native.Mathlib.Omega.{arith}

@@ -1,4 +1,4 @@
--- `calls::kernel_of`: one need for each kernel, and one for the unknown.
+-- `request::kernel_of`: one need for each kernel, and one for the unknown.
 use borrow.Author.Tests.{eq-eqb, ne-eqb}
 use Rattle.request.specs.Options.{kernelOf}
 use Rattle.request.proofs.kernel_of.Statement.{statement}

@@ -1,4 +1,4 @@
--- `calls::kind_of`: one need for each kind, and one for the unknown.
+-- `request::kind_of`: one need for each kind, and one for the unknown.
 use borrow.Author.Needs.{needs}
 use borrow.Author.Tests.{eq-eqb, ne-eqb}
 use Rattle.request.specs.Options.{kindOf}

@@ -1,4 +1,4 @@
--- `calls::options_of`: an unknown kernel leaves the options unknown.
+-- `request::options_of`: an unknown kernel leaves the options unknown.
 use borrow.Author.Needs.{needs}
 use mathlib.Core.Path.{refl, sym, _∙_}
 use Rattle.request.proofs.Options.{options-are}

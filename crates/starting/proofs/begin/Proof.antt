@@ -1,4 +1,4 @@
--- `job::starting::begin`: by what is said of the input; an accepted one has sizes in range.
+-- `starting::begin`: by what is said of the input; an accepted one has sizes in range.
 use borrow.Author.Needs.{needs}
 use mathlib.Core.Path.{sym, _∙_}
 use Rattle.plan.proofs.Accepted.{accept-planned}

@@ -1,4 +1,4 @@
--- `job::starting::blank`: a job that has made nothing, of no size.
+-- `starting::blank`: a job that has made nothing, of no size.
 use borrow.Author.Needs.{needs}
 use Rattle.starting.proofs.blank.Statement.{statement}
 use Rattle.starting.proofs.blank.Tie as tie

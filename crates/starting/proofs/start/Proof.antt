@@ -1,4 +1,4 @@
--- `job::starting::start`: by the plan.
+-- `starting::start`: by the plan.
 use borrow.Author.Needs.{needs}
 use Rattle.starting.proofs.Begins.{start-settled, start-sought}
 use Rattle.starting.proofs.start.Statement.{statement}

@@ -1,4 +1,4 @@
--- `calls::placed_weight`: the weight, or 0 with refusal 9.
+-- `weighing::placed_weight`: the weight, or 0 with refusal 9.
 use borrow.Author.Needs.{needs}
 use mathlib.Core.Path.{refl, ap, _∙_}
 use Prim.Native.Nat.{ℕ}

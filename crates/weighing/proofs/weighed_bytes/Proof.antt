@@ -1,4 +1,4 @@
--- `calls::weighed_bytes`: 13, or the weight.
+-- `weighing::weighed_bytes`: 13, or the weight.
 use borrow.Author.Needs.{needs}
 use borrow.Author.Tests.{lt-ltb, le-ltb}
 use mathlib.Core.Path.{refl}

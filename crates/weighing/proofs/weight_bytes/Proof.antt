@@ -1,4 +1,4 @@
--- `calls::weight_bytes`: 18, or what the weight of a known kernel comes to.
+-- `weighing::weight_bytes`: 18, or what the weight of a known kernel comes to.
 use borrow.Author.Needs.{needs}
 use mathlib.Core.Path.{refl, sym, _∙_}
 use Rattle.weighing.proofs.Judged.{both}

@@ -1,11 +1,11 @@
--- `listing::parts_len`: at most 40960 bytes.
+-- `header::parts_len`: at most 40960 bytes.
 use borrow.Author.Needs.{needs}
 use native.Mathlib.Omega.{arith}
 use native.Mathlib.Nat.{mul-le-mul}
 use mathlib.Core.Path.{refl}
 use Prim.Native.Nat.{_+_, _≤_}
-use Rattle.listing.proofs.parts_len.Statement.{statement}
-use Rattle.listing.proofs.parts_len.Tie as tie
+use Rattle.header.proofs.parts_len.Statement.{statement}
+use Rattle.header.proofs.parts_len.Tie as tie
 
 mul-result : tie.Need-mul-result
 mul-result c = let m : c .args .p + 3 ≤ 10 = omega arith in omega (arith, mul-le-mul (c .pre .0) m)

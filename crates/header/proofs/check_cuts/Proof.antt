@@ -1,11 +1,11 @@
--- `listing::check_cuts` meets its contract: its tests are the list's, in order.
+-- `header::check_cuts` meets its contract: its tests are the list's, in order.
 use borrow.Author.Needs.{needs}
 use native.Mathlib.Omega.{arith}
 use native.Mathlib.Nat.{mul-le-mul}
 use Rattle.checks.proofs.Tests.{tests}
-use Rattle.listing.specs.Jobs.{cutTests}
-use Rattle.listing.proofs.check_cuts.Statement.{statement}
-use Rattle.listing.proofs.check_cuts.Tie as tie
+use Rattle.header.specs.Cuts.{cutTests}
+use Rattle.header.proofs.check_cuts.Statement.{statement}
+use Rattle.header.proofs.check_cuts.Tie as tie
 
 mul-predictors : tie.Need-mul-predictors
 mul-predictors c = omega (arith, mul-le-mul (c .pre .0) (c .pre .1))

@@ -1,11 +1,11 @@
--- `listing::sized_header`: the sizes are refused, or the header is whole.
+-- `header::sized_header`: the sizes are refused, or the header is whole.
 use borrow.Author.Needs.{needs}
 use borrow.Author.Tests.{eq-eqb, ne-eqb, lt-ltb, le-ltb}
 use Rattle.checks.specs.Judge.{judge}
-use Rattle.listing.specs.Headers.{sizeTests}
-use Rattle.listing.proofs.Texts.{sizes-refused, sizes-whole}
-use Rattle.listing.proofs.sized_header.Statement.{statement}
-use Rattle.listing.proofs.sized_header.Tie as tie
+use Rattle.header.specs.Headers.{sizeTests}
+use Rattle.header.proofs.Heads.{sizes-refused, sizes-whole}
+use Rattle.header.proofs.sized_header.Statement.{statement}
+use Rattle.header.proofs.sized_header.Tie as tie
 
 returns : tie.Need-returns
 unfolding judge sizeTests

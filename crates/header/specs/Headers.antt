@@ -9,9 +9,9 @@ use Rattle.refusal.specs.declared.Refusal.{Refusal}
 use Rattle.refusal.specs.declared.Refusal.the-variants.{NoCoordinates, TooManyObservations, TooManyPredictors, UnknownNumber}
 use Rattle.checks.specs.Judge.{judge, ruled}
 use Rattle.request.specs.Options.{optionsOf, isUnknown}
-use Rattle.listing.specs.declared.Head.{Head}
-use Rattle.listing.specs.declared.Header.{Header}
-use Rattle.listing.specs.declared.Header.the-variants.{Whole, Refused}
+use Rattle.header.specs.declared.Head.{Head}
+use Rattle.header.specs.declared.Header.{Header}
+use Rattle.header.specs.declared.Header.the-variants.{Whole, Refused}
 
 -- 01: n, p, kernel, kind, bandwidth, 8 bytes each
 abbrev pub headOf : List ℕ → Head
@@ -41,3 +41,8 @@ partsLen n p = 8 * (n * (p + 3))
 -- the header where only its sizes are left to test
 unfoldable pub sizedHeader : List ℕ → Header
 sizedHeader s = ruled (judge (sizeTests (loadOf s 0) (loadOf s 8))) Refused (Whole (headOf s))
+
+-- how many bytes the program asks for behind a header; 01: 18, n of 0 or over 512 and p over 7 are refused before reading on
+abbrev pub asked : Header → ℕ
+asked (Whole h) = partsLen (h .n) (h .p)
+asked (Refused r) = 0

@@ -1,10 +1,10 @@
--- `listing::asked_behind`: what the header asks for.
+-- `header::asked_behind`: what the header asks for.
 use borrow.Author.Needs.{needs}
 use native.Mathlib.Omega.{arith}
 use mathlib.Core.Path.{sym, _∙_}
-use Rattle.listing.proofs.Texts.{head-sized, asked-is}
-use Rattle.listing.proofs.asked_behind.Statement.{statement}
-use Rattle.listing.proofs.asked_behind.Tie as tie
+use Rattle.header.proofs.Heads.{head-sized, asked-is}
+use Rattle.header.proofs.asked_behind.Statement.{statement}
+use Rattle.header.proofs.asked_behind.Tie as tie
 
 parts-len-requires : tie.Need-parts-len-requires
 parts-len-requires c κs = head-sized _ _ (sym (c .before .before .before .header-of .ensures) ∙ c .before .header .given .1)

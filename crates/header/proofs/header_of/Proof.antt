@@ -1,9 +1,9 @@
--- `listing::header_of`: 1 for a short header, 18, then the sizes.
+-- `header::header_of`: 1 for a short header, 18, then the sizes.
 use borrow.Author.Needs.{needs}
 use mathlib.Core.Path.{sym, _∙_}
-use Rattle.listing.proofs.Texts.{header-short, header-unknown, header-known}
-use Rattle.listing.proofs.header_of.Statement.{statement}
-use Rattle.listing.proofs.header_of.Tie as tie
+use Rattle.header.proofs.Heads.{header-short, header-unknown, header-known}
+use Rattle.header.proofs.header_of.Statement.{statement}
+use Rattle.header.proofs.header_of.Tie as tie
 
 returns : tie.Need-returns
 returns c = header-short _ (c .if1 .taken)
