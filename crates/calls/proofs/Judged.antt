@@ -20,7 +20,7 @@ use Rattle.checks.specs.declared.Check.{Check}
 use Rattle.checks.specs.declared.Check.the-variants as check
 use Rattle.checks.specs.Judge.{judge, ruled, NoneOf, Decides}
 use Rattle.checks.proofs.Judge.{ruled-append, ruled-refused, ruled-pass, none-head, none-append, decides}
-use Rattle.plan.specs.Checks.{shapeTests, valueTests, outputTests, inputTests, optionTests, fitTests}
+use Rattle.input.specs.Checks.{shapeTests, valueTests, outputTests, inputTests, optionTests, fitTests}
 use Rattle.gwr.specs.declared.Fit.{Fit}
 use Rattle.gwr.specs.Fit.{gwrFit}
 use Rattle.request.specs.declared.Choice.the-variants as choice

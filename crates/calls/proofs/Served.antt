@@ -20,7 +20,7 @@ use Rattle.criterion.specs.declared.Summary.{Summary}
 use Rattle.criterion.specs.Aicc.{failedSummary}
 use Rattle.checks.specs.Judge.{judge, NoneOf}
 use Rattle.checks.proofs.Judge.{none-head, none-append}
-use Rattle.plan.specs.Checks.{valueTests, fitTests}
+use Rattle.input.specs.Checks.{valueTests, fitTests}
 use Rattle.sweep.specs.declared.Finish.the-variants.{Fitted, Failed}
 use Rattle.gwr.specs.declared.FitAnswer.{FitAnswer}
 use Rattle.gwr.specs.declared.FitAnswer.the-variants.{Done, Rejected}

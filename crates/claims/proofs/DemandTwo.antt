@@ -30,8 +30,8 @@ use Rattle.setup.specs.declared.GwrOptions.{GwrOptions}
 use Rattle.setup.specs.Data.{Data}
 use Rattle.setup.specs.Shape.{setupOf}
 use Rattle.plan.specs.declared.Acceptance.{Acceptance}
-use Rattle.plan.specs.Checks.{inputTests, fitTests}
-use Rattle.plan.proofs.Accepted.{Accepted, input-accepted}
+use Rattle.input.specs.Checks.{inputTests, fitTests}
+use Rattle.input.proofs.Accepted.{Accepted, input-accepted}
 use Rattle.gwr.specs.Fit.{answered, gwrFit}
 use Rattle.gwr.proofs.Literal.{fit-literal}
 use Rattle.claims.specs.DemandTwo.{DemandTwo}

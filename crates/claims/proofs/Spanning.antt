@@ -24,7 +24,7 @@ use Rattle.setup.specs.Data.{Data}
 use Rattle.setup.specs.Shape.{setupOf}
 use Rattle.plan.specs.declared.Plan.the-variants.{Sought}
 use Rattle.plan.specs.declared.Acceptance.the-variants.{Planned}
-use Rattle.plan.specs.Bounds.{fartherPair, fartherFrom, greatestDistance}
+use Rattle.bounds.specs.Bounds.{fartherPair, fartherFrom, greatestDistance}
 use Rattle.plan.specs.Plan.{acceptOf}
 use Rattle.plan.proofs.Ranges.{sought-ranged}
 

@@ -21,10 +21,11 @@ use Rattle.plan.specs.declared.Plan.{Plan}
 use Rattle.plan.specs.declared.Plan.the-variants as plan
 use Rattle.plan.specs.declared.Acceptance.{Acceptance}
 use Rattle.plan.specs.declared.Acceptance.the-variants as acceptance
-use Rattle.plan.specs.Bounds.{leastDistance, leastCount, greatestCount}
-use Rattle.plan.specs.Checks.{valueTests, outputTests, lengthsFit}
+use Rattle.bounds.specs.Bounds.{leastDistance, leastCount, greatestCount}
+use Rattle.input.specs.Checks.{valueTests, outputTests, lengthsFit}
 use Rattle.plan.specs.Plan.{resolveInitialBandwidth, distancePlan, countPlan, searchPlan, planAt, planOf, acceptOf}
-use Rattle.plan.proofs.Accepted.{Accepted, Serves, accept-planned}
+use Rattle.plan.proofs.Planned.{Serves, accept-planned}
+use Rattle.input.proofs.Accepted.{Accepted}
 use Rattle.gwr.specs.Fit.{planned, answered, gwrFit}
 use Rattle.stepping.specs.declared.Stage.{Stage}
 use Rattle.stepping.specs.declared.Stage.the-variants.{First, Final}

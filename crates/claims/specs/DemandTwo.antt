@@ -46,8 +46,8 @@ use Rattle.golden.specs.Kiefer.{Span, Inside, Framed, KieferRound, Narrowed, tr
 use Rattle.setup.specs.declared.GwrOptions.{GwrOptions}
 use Rattle.plan.specs.declared.Plan.the-variants as plan
 use Rattle.plan.specs.declared.Acceptance.the-variants as acceptance
-use Rattle.plan.specs.Bounds.{bandwidthAt}
-use Rattle.plan.specs.Checks.{fitTests}
+use Rattle.bounds.specs.Bounds.{bandwidthAt}
+use Rattle.input.specs.Checks.{fitTests}
 use Rattle.plan.specs.Plan.{acceptOf}
 use Rattle.search.specs.Trial.{trialOf}
 use Rattle.search.specs.Literal.{goldenSectionMin}

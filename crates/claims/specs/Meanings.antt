@@ -19,9 +19,9 @@ use Rattle.setup.specs.Data.{Data}
 use Rattle.estimate.specs.Inverse.{inverseCell, inverseFinite}
 use Rattle.estimate.specs.Estimate.{coefficientsFinite}
 use Rattle.criterion.specs.declared.Criterion.{Criterion}
-use Rattle.plan.specs.Bounds.{greatestDistance}
-use Rattle.plan.specs.Checks.{lengthsFit, unusableGiven, nothingBetween}
-use Rattle.plan.specs.Conditions.{SomeNotFinite, UnusableGiven, NothingBetween}
+use Rattle.bounds.specs.Bounds.{greatestDistance}
+use Rattle.input.specs.Checks.{lengthsFit, unusableGiven, nothingBetween}
+use Rattle.input.specs.Conditions.{SomeNotFinite, UnusableGiven, NothingBetween}
 use Rattle.stepping.specs.declared.Stage.{Stage}
 use Rattle.stepping.specs.declared.Stage.the-variants.{Ended}
 use Rattle.stepping.specs.Step.{isEnded}

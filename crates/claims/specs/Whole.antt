@@ -11,7 +11,7 @@ use Rattle.setup.specs.Data.{Data}
 use Rattle.setup.specs.declared.Setup.{Setup}
 use Rattle.plan.specs.declared.Plan.{Plan}
 use Rattle.plan.specs.declared.Plan.the-variants as plan
-use Rattle.plan.specs.Bounds.{bandwidthAt}
+use Rattle.bounds.specs.Bounds.{bandwidthAt}
 use Rattle.sweep.specs.declared.Finish.the-variants as finish
 use Rattle.search.specs.declared.Trial.{Trial}
 use Rattle.search.specs.Trial.{trialOf}

@@ -21,9 +21,9 @@ use Rattle.plan.specs.declared.Plan.{Plan}
 use Rattle.plan.specs.declared.Plan.the-variants.{Settled, Sought}
 use Rattle.plan.specs.declared.Acceptance.{Acceptance}
 use Rattle.plan.specs.declared.Acceptance.the-variants.{Planned}
-use Rattle.plan.specs.Bounds.{greatestDistance, leastDistance, leastCount, greatestCount, bandwidthAt}
+use Rattle.bounds.specs.Bounds.{greatestDistance, leastDistance, leastCount, greatestCount, bandwidthAt}
 use Rattle.plan.specs.Plan.{distancePlan, countPlan, searchPlan, planAt, acceptOf}
-use Rattle.plan.proofs.Accepted.{accept-planned}
+use Rattle.plan.proofs.Planned.{accept-planned}
 use Rattle.search.specs.Trial.{trialOf}
 use Rattle.search.specs.Search.{goldenOf, optimizeBandwidth}
 use Rattle.search.specs.Literal.{goldenSectionMin}

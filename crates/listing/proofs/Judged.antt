@@ -23,7 +23,7 @@ use Rattle.checks.specs.declared.Check.{Check}
 use Rattle.checks.specs.declared.Check.the-variants as check
 use Rattle.checks.specs.Judge.{judge, ruled, NoneOf, Decides}
 use Rattle.checks.proofs.Judge.{ruled-append, ruled-refused, ruled-pass, judge-append, judge-rest, none-append, decides}
-use Rattle.plan.specs.Checks.{valueTests, optionTests, fitTests}
+use Rattle.input.specs.Checks.{valueTests, optionTests, fitTests}
 use Rattle.gwr.specs.declared.Fit.{Fit}
 use Rattle.gwr.specs.Fit.{gwrFit}
 use Rattle.gwr.proofs.Bounds.{Sound, fits}

@@ -13,7 +13,7 @@ use Rattle.refusal.specs.declared.Refusal.the-variants.{TooFewObservations}
 use Rattle.setup.specs.declared.GwrOptions.{GwrOptions}
 use Rattle.setup.specs.Data.{Data, dataOf}
 use Rattle.setup.specs.Shape.{setupOf}
-use Rattle.plan.specs.Checks.{valueTests, optionTests}
+use Rattle.input.specs.Checks.{valueTests, optionTests}
 use Rattle.sweep.specs.declared.Finish.the-variants.{Fitted, Failed}
 use Rattle.gwr.specs.declared.FitAnswer.{FitAnswer}
 use Rattle.gwr.specs.declared.FitAnswer.the-variants.{Done, Rejected}

@@ -51,7 +51,7 @@ fn start(u: Setup, plan: Plan) -> Job
         Plan::Settled(b) => Job::fresh(u, Stage::Final, Bracket::none(), b),
         Plan::Sought(lo, hi) => {
             let g = Bracket::start(lo, hi);
-            let b = plan::bandwidth_at(u, g.c);
+            let b = bounds::bandwidth_at(u, g.c);
             Job::fresh(u, Stage::First, g, b)
         }
     }

@@ -24,8 +24,8 @@ use Rattle.criterion.specs.declared.Criterion.{Criterion}
 use Rattle.criterion.specs.Aicc.{scoreOf}
 use Rattle.golden.specs.declared.Bracket.{Bracket}
 use Rattle.golden.specs.Golden.{aimOf, narrowOf, tightOf}
-use Rattle.plan.specs.Bounds.{leastCount, greatestCount, pointOf, bandwidthAt}
-use Rattle.plan.proofs.Accepted.{bandwidth-usable}
+use Rattle.bounds.specs.Bounds.{leastCount, greatestCount, pointOf, bandwidthAt}
+use Rattle.bounds.proofs.Usable.{bandwidth-usable}
 use Rattle.sweep.specs.declared.Sweep.{Sweep}
 use Rattle.sweep.specs.Sweep.{addValues, nextLocation, rowFound, rowAfter}
 use Rattle.stepping.specs.declared.Stage.{Stage}

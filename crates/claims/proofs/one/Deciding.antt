@@ -15,9 +15,9 @@ use Rattle.setup.specs.Shape.{setupOf}
 use Rattle.plan.specs.declared.Plan.{Plan}
 use Rattle.plan.specs.declared.Acceptance.{Acceptance}
 use Rattle.plan.specs.declared.Acceptance.the-variants as acceptance
-use Rattle.plan.specs.Checks.{fitTests}
+use Rattle.input.specs.Checks.{fitTests}
 use Rattle.plan.specs.Plan.{planOf, acceptOf}
-use Rattle.plan.proofs.Accepted.{accept-decides}
+use Rattle.plan.proofs.Planned.{accept-decides}
 use Rattle.gwr.specs.declared.Fit.{Fit}
 use Rattle.gwr.specs.declared.FitAnswer.the-variants as fit
 use Rattle.gwr.specs.Fit.{answered, gwrFit}

@@ -8,7 +8,7 @@ use Rattle.checks.specs.Judge.{Means}
 use Rattle.checks.proofs.Means.{not-means, and-means, or-means, equal-means, below-means}
 use Rattle.estimate.proofs.Meanings.{inverse-not-finite-means, coefficient-not-finite-means}
 use Rattle.criterion.specs.declared.Criterion.{Criterion}
-use Rattle.plan.proofs.Meanings.{not-finite-means, unusable-distance-means, no-distance-range-means, lengths-fit-means}
+use Rattle.input.proofs.Meanings.{not-finite-means, unusable-distance-means, no-distance-range-means, lengths-fit-means}
 use Rattle.stepping.specs.declared.Stage.{Stage}
 use Rattle.stepping.specs.declared.Stage.the-variants.{First, Second, Round, Final, Ended}
 use Rattle.stepping.specs.Step.{isEnded}

@@ -1,7 +1,7 @@
 -- `starting::begin`: by what is said of the input; an accepted one has sizes in range.
 use borrow.Author.Needs.{needs}
 use mathlib.Core.Path.{sym, _∙_}
-use Rattle.plan.proofs.Accepted.{accept-planned}
+use Rattle.plan.proofs.Planned.{accept-planned}
 use Rattle.starting.proofs.Begins.{begin-is}
 use Rattle.starting.proofs.begin.Statement.{statement}
 use Rattle.starting.proofs.begin.Tie as tie
