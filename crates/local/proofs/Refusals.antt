@@ -12,7 +12,7 @@ use Rattle.real.specs.Matrix.{Row, Matrix}
 use Rattle.estimate.specs.declared.Estimate.{Estimate}
 use Rattle.estimate.specs.declared.Estimate.the-variants.{Fitted, Failed}
 use Rattle.estimate.specs.declared.Estimated.{Estimated}
-use Rattle.local.specs.declared.Values.{Values}
+use Rattle.evaluate.specs.declared.Values.{Values}
 use Rattle.local.specs.declared.Outcome.{Outcome}
 use Rattle.local.specs.declared.Outcome.the-variants.{Found, Refused}
 use Rattle.estimate.specs.Inverse.{inverseFinite}

@@ -18,7 +18,7 @@ use Rattle.setup.specs.Data.{Data}
 use Rattle.setup.specs.Shape.{Sized}
 use Rattle.local.specs.declared.Outcome.{Outcome}
 use Rattle.local.specs.declared.Outcome.the-variants as outcome
-use Rattle.local.proofs.Rows.{put-long}
+use Rattle.row.proofs.Rows.{put-long}
 use Rattle.local.proofs.Lengths.{beta-eight}
 use Rattle.criterion.specs.declared.Criterion.{Criterion}
 use Rattle.criterion.specs.Aicc.{scoreOf}

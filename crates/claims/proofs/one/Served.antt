@@ -15,13 +15,13 @@ use Rattle.real.proofs.SignedOrder.{here-or-on}
 use Rattle.setup.specs.declared.GwrBandwidth.{GwrBandwidth}
 use Rattle.setup.specs.declared.Setup.{Setup}
 use Rattle.setup.specs.Data.{Data}
-use Rattle.local.specs.declared.Values.{Values}
+use Rattle.evaluate.specs.declared.Values.{Values}
 use Rattle.local.specs.declared.Outcome.{Outcome}
 use Rattle.local.specs.declared.Outcome.the-variants as outcome
 use Rattle.local.specs.Solve.{solveLocation}
-use Rattle.local.specs.Row.{rowOf, putRow}
-use Rattle.local.proofs.Copies.{row-within}
-use Rattle.local.proofs.Rows.{row-long, put-long}
+use Rattle.row.specs.Row.{rowOf, putRow}
+use Rattle.row.proofs.Copies.{row-within}
+use Rattle.row.proofs.Rows.{row-long, put-long}
 use Rattle.local.proofs.Lengths.{beta-eight}
 use Rattle.sweep.specs.declared.Course.{Course}
 use Rattle.sweep.specs.declared.Course.the-variants.{Going, Stopped}

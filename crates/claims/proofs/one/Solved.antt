@@ -18,7 +18,7 @@ use Rattle.normal.specs.Equations.{equationsOf}
 use Rattle.estimate.specs.declared.Estimate.the-variants as estimate
 use Rattle.estimate.specs.Inverse.{inverseFinite}
 use Rattle.estimate.specs.Estimate.{coefficientsOf, coefficientsFinite, refusedWith, fromInverse, eliminatedOf, fitCoefficients}
-use Rattle.local.specs.declared.Values.{Values}
+use Rattle.evaluate.specs.declared.Values.{Values}
 use Rattle.local.specs.declared.Outcome.{Outcome}
 use Rattle.local.specs.declared.Outcome.the-variants as outcome
 use Rattle.local.specs.Solve.{outcomeOf, solveLocal, solveLocation}
