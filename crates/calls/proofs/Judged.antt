@@ -25,6 +25,7 @@ use Rattle.gwr.specs.declared.Fit.{Fit}
 use Rattle.gwr.specs.Fit.{gwrFit}
 use Rattle.request.specs.declared.Choice.the-variants as choice
 use Rattle.request.specs.Options.{optionsOf, named}
+use Rattle.request.proofs.Lengths.{passed}
 use Rattle.calls.specs.Calls.{numbersOf, lentTooShort, numberTests, callTests, AfterCall, refusedCall, fittedBytes, numbersFit, fitBytes, roomOf, fitParts}
 use Rattle.request.specs.Lengths.{byteTests, ByteLengths}
 use Rattle.gwr.proofs.Bounds.{fit-decides}

@@ -21,6 +21,7 @@ use Rattle.gwr.specs.declared.FitAnswer.{FitAnswer}
 use Rattle.gwr.specs.declared.FitAnswer.the-variants.{Done, Rejected}
 use Rattle.gwr.specs.declared.Fit.{Fit}
 use Rattle.gwr.specs.Fit.{gwrFit}
+use Rattle.request.specs.Lengths.{byteTests}
 use Rattle.request.specs.Options.{optionsOf, isUnknown, named}
 
 -- ---- the fit call's tests

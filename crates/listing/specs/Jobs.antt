@@ -11,6 +11,7 @@ use Rattle.refusal.specs.declared.Refusal.{Refusal}
 use Rattle.checks.specs.Judge.{judge, ruled}
 use Rattle.calls.specs.Calls.{AfterCall, fitBytes}
 use Rattle.header.specs.declared.Head.{Head}
+use Rattle.header.specs.Cuts.{placesEnd, predictorsEnd, cutTests}
 
 -- 01: a refusal prints `fit` and its number only
 abbrev pub refusedText : Refusal → List ℕ

@@ -5,7 +5,7 @@ use lib.ListN.{take, drop}
 use Rattle.checks.specs.Judge.{judge, ruled}
 use Rattle.header.specs.declared.Header.{Header}
 use Rattle.header.specs.declared.Header.the-variants.{Whole, Refused}
-use Rattle.header.specs.Headers.{headOf, headerOf}
+use Rattle.header.specs.Headers.{headOf, headerOf, asked}
 use Rattle.listing.specs.Jobs.{refusedText, jobText}
 use Rattle.listing.specs.Numbers.{printTests, textOfFit}
 
