@@ -38,7 +38,8 @@ fn solve_local(coords: &[f64], x: &[f64], y: &[f64], u: Setup, i: usize, b: f64)
     }
 }
 
-// Location i solved at its own bandwidth.
+// Location i solved at its own bandwidth. One call for each kind keeps `solve_local` a function of its own in the compiled code:
+// merged into a sweep's loop, it takes a twentieth more time.
 pub fn solve_location(
     coords: &[f64],
     x: &[f64],
@@ -52,6 +53,11 @@ pub fn solve_location(
     requires { ⌜ i < u .n ⌝ }
     ensures { λ r. ⌜ r ≡ solveLocation u (dataOf (now (coords .entry)) (now (x .entry)) (now (y .entry))) bandwidth i ⌝ }
 {
-    let b = neighbours::local_bandwidth_distance(coords, u.n, i, bandwidth);
-    solve_local(coords, x, y, u, i, b)
+    match bandwidth {
+        GwrBandwidth::Fixed(b) => solve_local(coords, x, y, u, i, b),
+        GwrBandwidth::AdaptiveKnn(_) => {
+            let b = neighbours::local_bandwidth_distance(coords, u.n, i, bandwidth);
+            solve_local(coords, x, y, u, i, b)
+        }
+    }
 }
