@@ -38,8 +38,7 @@ fn solve_local(coords: &[f64], x: &[f64], y: &[f64], u: Setup, i: usize, b: f64)
     }
 }
 
-// Location i solved at its own bandwidth. One call for each kind keeps `solve_local` a function of its own in the compiled code:
-// merged into a sweep's loop, it takes a twentieth more time.
+// Location i solved at its own bandwidth.
 pub fn solve_location(
     coords: &[f64],
     x: &[f64],
@@ -53,11 +52,6 @@ pub fn solve_location(
     requires { ⌜ i < u .n ⌝ }
     ensures { λ r. ⌜ r ≡ solveLocation u (dataOf (now (coords .entry)) (now (x .entry)) (now (y .entry))) bandwidth i ⌝ }
 {
-    match bandwidth {
-        GwrBandwidth::Fixed(b) => solve_local(coords, x, y, u, i, b),
-        GwrBandwidth::AdaptiveKnn(_) => {
-            let b = neighbours::local_bandwidth_distance(coords, u.n, i, bandwidth);
-            solve_local(coords, x, y, u, i, b)
-        }
-    }
+    let b = neighbours::local_bandwidth_distance(coords, u.n, i, bandwidth);
+    solve_local(coords, x, y, u, i, b)
 }
