@@ -28,13 +28,9 @@ pub fn weigh(
     let options = u.options;
     let kernel = options.kernel;
     let reach = kernel.reach(b);
-    let mut guesses = [0.0; 512];
-    near::guess_all(coords, n, east, north, reach, &mut guesses);
-    let mut sum = 0.0;
-    for j in 0..n {
-        let v = near::weight(coords, n, kernel, east, north, b, j, reach, guesses[j]);
-        w[j] = v;
-        sum = sum + v;
+    if reach == reach {
+        near::weigh_within(coords, n, kernel, east, north, b, reach, w)
+    } else {
+        near::weigh_all(coords, n, kernel, east, north, b, w)
     }
-    sum
 }
