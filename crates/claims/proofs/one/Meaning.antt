@@ -4,17 +4,8 @@ use mathlib.Core.Bool.{Bool, true, false, not, _||_}
 use mathlib.Core.Logic.{_⊎_}
 use borrow.Author.Tests.{leb-true, le-leb}
 use lib.Dec.{T}
-use Rattle.checks.specs.Judge.{Means}
-use Rattle.checks.proofs.Means.{not-means, and-means, or-means, equal-means, below-means}
-use Rattle.estimate.proofs.Meanings.{inverse-not-finite-means, coefficient-not-finite-means}
-use Rattle.criterion.specs.declared.Criterion.{Criterion}
-use Rattle.input.proofs.Meanings.{not-finite-means, unusable-distance-means, no-distance-range-means, lengths-fit-means}
-use Rattle.stepping.specs.declared.Stage.{Stage}
-use Rattle.stepping.specs.declared.Stage.the-variants.{First, Second, Round, Final, Ended}
-use Rattle.stepping.specs.Step.{isEnded}
-use Rattle.fitness.proofs.Fits.{kinds-means}
-use Rattle.weighing.proofs.Judged.{distance-means}
-use Rattle.request.proofs.Options.{unknown-means}
+use Rattle.claims.specs.Words.{Means, Criterion, Stage, First, Second, Round, Final, Ended, isEnded}
+use Rattle.claims.proofs.Laws.{not-means, and-means, or-means, equal-means, below-means, inverse-not-finite-means, coefficient-not-finite-means, not-finite-means, unusable-distance-means, no-distance-range-means, lengths-fit-means, kinds-means, distance-means, unknown-means}
 use Rattle.claims.specs.Meanings.{Meanings}
 use Rattle.claims.proofs.Cases.{never}
 
