@@ -9,11 +9,10 @@ use lib.ListN.{length}
 use lib.Ieee.{Float, le}
 use Rattle.checks.specs.declared.Check.the-variants as check
 use Rattle.claims.specs.Words.{judge, GwrBandwidth, Fixed, AdaptiveKnn, GwrOptions, Setup, Usable, Data, setupOf, Sized, Bracket, Plan, Acceptance, leastDistance, leastCount, greatestCount, valueTests, outputTests, lengthsFit, resolveInitialBandwidth, distancePlan, countPlan, searchPlan, planAt, planOf, acceptOf, planned, answered, gwrFit, Stage, First, Final, Job, freshJob, OfKind, TrialsAt, Sound, startJob, begunWith, beginOf, lentTests}
-use Rattle.claims.proofs.Laws.{Serves, accept-planned, Accepted, kind-at, Holds}
+use Rattle.claims.proofs.Laws.{either, Serves, accept-planned, Accepted, kind-at, Holds}
 use Rattle.plan.specs.declared.Plan.the-variants as plan
 use Rattle.plan.specs.declared.Acceptance.the-variants as acceptance
 use Rattle.starting.specs.declared.Beginning.the-variants as beginning
-use Rattle.claims.proofs.Cases.{either}
 
 -- ---- the bandwidth is of the options' kind
 

@@ -6,6 +6,7 @@ use Prim.Native.Nat.{ℕ}
 use native.Mathlib.Omega.{arith}
 use lib.Dec.{leb}
 use lib.Ieee.{Float, le}
+use Rattle.real.proofs.Cases.{either}
 use Rattle.refusal.specs.declared.Refusal.{Refusal}
 use Rattle.setup.specs.declared.GwrBandwidth.{GwrBandwidth}
 use Rattle.setup.specs.declared.GwrBandwidth.the-variants.{Fixed, AdaptiveKnn}
@@ -56,10 +57,6 @@ abbrev pub Serves : Plan → Type 0
 Serves (Settled b) = Usable b
 Serves (Sought lo hi) = Unit
 
-either : (b : Bool) (q s : Plan) → Serves q → Serves s → Serves (cond b q s)
-either true q s h k = h
-either false q s h k = k
-
 module _ (u : Setup) (s : Sized u) where
   given-serves : (w : GwrBandwidth) → Usable (resolveInitialBandwidth w (u .n))
   unfolding resolveInitialBandwidth resolveCount
@@ -68,12 +65,12 @@ module _ (u : Setup) (s : Sized u) where
 
   search-serves : (w : GwrBandwidth) (hi : Float) → Serves (searchPlan w hi (u .n) (u .p))
   unfolding searchPlan distancePlan countPlan
-  search-serves (Fixed b) hi = either (le hi (leastDistance hi (u .n))) _ _ tt tt
-  search-serves (AdaptiveKnn k) hi = either (leb (greatestCount (u .n) (u .p)) (leastCount (u .p))) _ _ (record { some = omega arith; few = omega (arith, s .narrow) }) tt
+  search-serves (Fixed b) hi = either Serves (le hi (leastDistance hi (u .n))) _ _ tt tt
+  search-serves (AdaptiveKnn k) hi = either Serves (leb (greatestCount (u .n) (u .p)) (leastCount (u .p))) _ _ (record { some = omega arith; few = omega (arith, s .narrow) }) tt
 
   pub plan-serves : (hi : Float) → Serves (planAt u hi)
   unfolding planAt
-  plan-serves hi = either (u .options .«optimize_bandwidth») _ _ (search-serves (u .options .bandwidth) hi) (given-serves (u .options .bandwidth))
+  plan-serves hi = either Serves (u .options .«optimize_bandwidth») _ _ (search-serves (u .options .bandwidth) hi) (given-serves (u .options .bandwidth))
 
 -- ---- an input that is accepted
 

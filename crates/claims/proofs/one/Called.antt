@@ -7,14 +7,13 @@ use native.Mathlib.Omega.{arith}
 use lib.ListN.{length, take, replicate}
 use lib.Ieee.{Float}
 use Rattle.claims.specs.Words.{zero64, Refusal, Singular, InverseNotFinite, CoefficientNotFinite, refusalNumber, NoneOf, Decides, GwrKernel, weightOf, GwrBandwidth, GwrOptions, Setup, Data, Outcome, solveLocation, Criterion, deviation, correctedAic, rounded, fromCount, root, finishOf, FitAnswer, realOf, kernelOf, namedKernel, optionsOf, named, AfterCall, numbersOf, callTests, placedRows, answerBytes, fittedBytes, numbersFit, fitBytes, weightTests, refusedWeight, givenWeight, weightBytes}
-use Rattle.claims.proofs.Laws.{AtLocation, OutcomeAt, location-at, call-decides, weight-decides, call-passed, call-untouched, weight-known}
+use Rattle.claims.proofs.Laws.{either, AtLocation, OutcomeAt, location-at, call-decides, weight-decides, call-passed, call-untouched, weight-known}
 use Rattle.criterion.specs.declared.Criterion.the-variants as criterion
 use lib.Ieee.Scale.{finite}
 use Rattle.sweep.specs.declared.Finish.the-variants as finish
 use Rattle.gwr.specs.declared.FitAnswer.the-variants as fit
 use Rattle.request.specs.declared.KernelChoice.the-variants as choice
 use Rattle.claims.specs.DemandOne.{residualSquares, leverageTrace, FitAnswered, JobServed, BytesServed}
-use Rattle.claims.proofs.Cases.{either}
 use Rattle.claims.proofs.one.Deciding.{fit-decides}
 
 -- ---- a fit that is served is fitted, or failed with 14 to 17

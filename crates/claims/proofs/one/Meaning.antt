@@ -5,9 +5,8 @@ use mathlib.Core.Logic.{_⊎_}
 use borrow.Author.Tests.{leb-true, le-leb}
 use lib.Dec.{T}
 use Rattle.claims.specs.Words.{Means, Criterion, Stage, First, Second, Round, Final, Ended, isEnded}
-use Rattle.claims.proofs.Laws.{not-means, and-means, or-means, equal-means, below-means, inverse-not-finite-means, coefficient-not-finite-means, not-finite-means, unusable-distance-means, no-distance-range-means, lengths-fit-means, kinds-means, distance-means, unknown-means}
+use Rattle.claims.proofs.Laws.{never, not-means, and-means, or-means, equal-means, below-means, inverse-not-finite-means, coefficient-not-finite-means, not-finite-means, unusable-distance-means, no-distance-range-means, lengths-fit-means, kinds-means, distance-means, unknown-means}
 use Rattle.claims.specs.Meanings.{Meanings}
-use Rattle.claims.proofs.Cases.{never}
 
 itself : (b : Bool) → Means b (b ≡ true)
 itself b = (λ e. e, λ e. e)

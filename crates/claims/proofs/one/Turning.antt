@@ -10,14 +10,13 @@ use lib.ListN.{length}
 use lib.Ieee.{Float}
 use lib.Ieee.Scale.{finite}
 use Rattle.claims.specs.Words.{rounded, fromCount, root, Refusal, NoneOf, Decides, Setup, Data, Outcome, Criterion, deviation, correctedAic, scoreOf, narrowOf, addValues, Stage, First, Second, Round, Final, Ended, Job, isEnded, isLastRound, closeAt, closeJob, passJob, solvedJob, afterOutcome, solveOf, stepJob, stepOf, isOver, run, turnTests, answerAt, runOf, turnOf}
-use Rattle.claims.proofs.Laws.{none-head, OutcomeAt, location-at, Holds, sound-held, holds-step, fit-means, run-few, run-keeps}
+use Rattle.claims.proofs.Laws.{either, never, none-head, OutcomeAt, location-at, Holds, sound-held, holds-step, fit-means, run-few, run-keeps}
 use Rattle.local.specs.declared.Outcome.the-variants as outcome
 use Rattle.criterion.specs.declared.Criterion.the-variants as criterion
 use Rattle.job.specs.declared.Answer.the-variants as answer
 use Rattle.job.proofs.Turning as turns
 use Rattle.claims.specs.Turns.{JobState}
 use Rattle.claims.specs.DemandOne.{Met, TurnAnswered, TurnServed}
-use Rattle.claims.proofs.Cases.{either, never}
 use Rattle.claims.proofs.Lending.{Untouched, step-untouched}
 use Rattle.claims.proofs.Untouched.{Kept, front-kept}
 use Rattle.claims.proofs.one.Solved.{at-met}

@@ -6,10 +6,9 @@ use native.Mathlib.Nat.{mul-le-mul}
 use native.Mathlib.Omega.{arith}
 use lib.Dec.{eqb}
 use Rattle.claims.specs.Words.{Setup, Data, Outcome, Criterion, scoreOf, narrowOf, addValues, Stage, First, Second, Round, Final, Ended, Job, isEnded, isLastRound, closeAt, closeJob, solvedJob, passJob, afterOutcome, solveOf, stepJob, stepOf, isOver, steps}
-use Rattle.claims.proofs.Laws.{sound-few, Holds, ended-few}
+use Rattle.claims.proofs.Laws.{either, never, sound-few, Holds, ended-few}
 use Rattle.local.specs.declared.Outcome.the-variants as outcome
 use Rattle.claims.specs.Turns.{JobState, settled}
-use Rattle.claims.proofs.Cases.{either, never}
 use Rattle.claims.proofs.three.Leading.{Leads}
 
 -- ---- solves

@@ -10,10 +10,9 @@ use lib.Dec.{eqb}
 use lib.ListN.{length}
 use lib.Ieee.{Float, binary64, le, ofBits}
 use Rattle.claims.specs.Words.{magnitude, turns, range, Setup, Data, Bracket, startOf, firstOf, secondOf, aimOf, narrowOf, tightOf, bandwidthAt, Search, Trial, trialOf, roundOf, openedOf, goldenOf, loopBody, First, Second, Round, Final, isLastRound}
-use Rattle.claims.proofs.Laws.{variablesOf, body-is, left, front, opened-is}
+use Rattle.claims.proofs.Laws.{either, variablesOf, body-is, left, front, opened-is}
 use Rattle.claims.specs.Whole.{Scored, triedIn, loopTrials, goldenTrials}
 use Rattle.claims.specs.Turns.{JobState}
-use Rattle.claims.proofs.Cases.{either}
 use Rattle.claims.proofs.three.Leading.{leads-then}
 use Rattle.claims.proofs.three.Sweeping.{startAt, Leading, trial-leads}
 
