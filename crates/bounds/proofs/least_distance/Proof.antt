@@ -1,4 +1,4 @@
--- `bounds::least_distance` meets its contract.
+-- `bounds::least_distance` meets its contract: each operation is its definition, in order.
 use borrow.Author.Needs.{needs}
 use Rattle.bounds.specs.Bounds.{leastDistance}
 use Rattle.bounds.proofs.least_distance.Statement.{statement}

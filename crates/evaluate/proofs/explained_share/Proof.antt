@@ -1,4 +1,4 @@
--- `evaluate::explained_share` meets its contract.
+-- `evaluate::explained_share` meets its contract: by whether the total is at most epsilon.
 use borrow.Author.Needs.{needs}
 use mathlib.Core.Path.{sym, _∙_}
 use Rattle.evaluate.specs.Evaluate.{explainedShare}

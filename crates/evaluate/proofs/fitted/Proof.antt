@@ -1,4 +1,4 @@
--- `evaluate::fitted` meets its contract.
+-- `evaluate::fitted` meets its contract: the intercept apart, then the loop's sum is the fold of `innerStep`, read where the predictors stand.
 use borrow.Author.Needs.{needs}
 use Prim.Native.Nat.{_+_, _*_, _-_, _<_}
 use native.Mathlib.Omega.{arith}

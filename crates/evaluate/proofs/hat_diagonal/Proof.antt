@@ -1,4 +1,4 @@
--- `evaluate::hat_diagonal` meets its contract.
+-- `evaluate::hat_diagonal` meets its contract: the loop's sum is the fold of `quadStep` up to p; then the own weight.
 use borrow.Author.Needs.{needs}
 use Prim.Native.Nat.{_-_}
 use Rattle.real.proofs.Fold.{Range, none, more, done}

@@ -1,4 +1,4 @@
--- `evaluate::inner_product` meets its contract.
+-- `evaluate::inner_product` meets its contract: the loop's sum is the fold of `innerStep` up to j.
 use borrow.Author.Needs.{needs}
 use Prim.Native.Nat.{_-_}
 use mathlib.Core.Path.{refl}

@@ -1,4 +1,4 @@
--- `evaluate::local_r_squared` meets its contract.
+-- `evaluate::local_r_squared` meets its contract: each part is its definition, in order.
 use borrow.Author.Needs.{needs}
 use mathlib.Core.Path.{_∙_}
 use Rattle.evaluate.specs.Evaluate.{localRSquared}

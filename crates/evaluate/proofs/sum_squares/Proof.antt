@@ -1,4 +1,4 @@
--- `evaluate::sum_squares` meets its contract.
+-- `evaluate::sum_squares` meets its contract: the loop's sums are the fold of `squaresStep` up to j; an observation that weighs nothing is passed by.
 use borrow.Author.Needs.{needs}
 use Prim.Native.Nat.{_-_}
 use mathlib.Core.Path.{_∙_}

@@ -1,4 +1,4 @@
--- `evaluate::values_at` meets its contract.
+-- `evaluate::values_at` meets its contract: each value is its definition.
 use borrow.Author.Needs.{needs}
 use Rattle.evaluate.specs.Evaluate.{valuesAt}
 use Rattle.evaluate.proofs.values_at.Statement.{statement}

@@ -1,4 +1,4 @@
--- `input::lengths_fit` meets its contract.
+-- `input::lengths_fit` meets its contract: three equations of lengths, joined as the definition joins them.
 use borrow.Author.Needs.{needs}
 use native.Mathlib.Nat.{mul-le-mul}
 use native.Mathlib.Omega.{arith}

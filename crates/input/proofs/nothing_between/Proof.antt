@@ -1,4 +1,4 @@
--- `input::nothing_between` meets its contract.
+-- `input::nothing_between` meets its contract: each part is its definition.
 use borrow.Author.Needs.{needs}
 use Rattle.input.specs.Checks.{nothingBetween}
 use Rattle.input.proofs.nothing_between.Statement.{statement}

@@ -1,4 +1,4 @@
--- `row::copy_in` meets its contract.
+-- `row::copy_in` meets its contract: the first q are copied, those behind are as they were.
 use Prim.Native.Nat.{_-_}
 use borrow.Author.Needs.{needs}
 use lib.Ieee.{nan}

@@ -1,4 +1,4 @@
--- `row::put_row` meets its contract.
+-- `row::put_row` meets its contract: the row is written at the start of the part that is lent on.
 use Prim.Native.Nat.{_+_, _*_, _≤_}
 use borrow.Author.Needs.{needs}
 use native.Mathlib.Omega.{arith}

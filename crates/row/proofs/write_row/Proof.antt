@@ -1,4 +1,4 @@
--- `row::write_row` meets its contract.
+-- `row::write_row` meets its contract: coefficients copied in, then three numbers set behind them.
 use borrow.Author.Needs.{needs}
 use native.Mathlib.Omega.{arith}
 use lib.ListN.{take, length-set}
