@@ -117,7 +117,7 @@ pub extern "C" fn zescolumba_turns(
         bandwidth: GwrBandwidth::Fixed(400.0),
         optimize_bandwidth: false,
     };
-    let begun = job::begin(coords, x, y, p, options, &*out);
+    let begun = starting::begin(coords, x, y, p, options, &*out);
     let first = begun.job;
     let last = play(first, coords, x, y, out, allowance, turns);
     last.solves
