@@ -1,11 +1,11 @@
--- `measured::zescolumba_roots` meets its contract.
+-- `mapped::roots` meets its contract.
 use borrow.Author.Needs.{needs}
 use Prim.Native.Nat.{_-_}
 use mathlib.Core.Path.{refl}
 use Rattle.root.specs.Root.{root}
-use Rattle.measured.proofs.Mapping.{Mapping, start, next, done}
-use Rattle.measured.proofs.zescolumba_roots.Statement.{statement}
-use Rattle.measured.proofs.zescolumba_roots.Tie as tie
+use Rattle.mapped.proofs.Mapping.{Mapping, start, next, done}
+use Rattle.mapped.proofs.roots.Statement.{statement}
+use Rattle.mapped.proofs.roots.Tie as tie
 
 abbrev Inv-loop : tie.InvT-loop
 Inv-loop values₀ i₀ i-end values i = Mapping root values₀ i-end i values
@@ -13,8 +13,8 @@ Inv-loop values₀ i₀ i-end values i = Mapping root values₀ i-end i values
 abbrev μ-loop : tie.MeasureT-loop
 μ-loop values₀ i₀ i-end values i = i-end - i
 
-pub zescolumba-roots-spec : {M : Type 1} → statement M
-zescolumba-roots-spec =
+pub roots-spec : {M : Type 1} → statement M
+roots-spec =
     tie.close
     (tie.spec Inv-loop μ-loop
     (λ c. start refl)

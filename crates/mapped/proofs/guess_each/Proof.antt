@@ -1,10 +1,10 @@
--- `measured::guess_each` meets its contract.
+-- `mapped::guess_each` meets its contract.
 use borrow.Author.Needs.{needs}
 use Prim.Native.Nat.{_-_, _≤_}
 use mathlib.Core.Path.{_≡_}
 use lib.ListN.{length}
-use Rattle.measured.proofs.guess_each.Statement.{statement}
-use Rattle.measured.proofs.guess_each.Tie as tie
+use Rattle.mapped.proofs.guess_each.Statement.{statement}
+use Rattle.mapped.proofs.guess_each.Tie as tie
 
 abbrev Inv-loop : tie.InvT-loop
 Inv-loop values into₀ i₀ i-end into i = i ≤ i-end × (i-end ≡ length values)

@@ -1,11 +1,11 @@
--- `measured::settle_each` meets its contract.
+-- `mapped::settle_each` meets its contract.
 use borrow.Author.Needs.{needs}
 use Prim.Native.Nat.{_-_}
 use mathlib.Core.Path.{refl}
 use Rattle.root.specs.Root.{root}
-use Rattle.measured.proofs.Mapping.{Mapping, start, next, done}
-use Rattle.measured.proofs.settle_each.Statement.{statement}
-use Rattle.measured.proofs.settle_each.Tie as tie
+use Rattle.mapped.proofs.Mapping.{Mapping, start, next, done}
+use Rattle.mapped.proofs.settle_each.Statement.{statement}
+use Rattle.mapped.proofs.settle_each.Tie as tie
 
 abbrev Inv-loop : tie.InvT-loop
 Inv-loop values₀ guesses i₀ i-end values i = Mapping root values₀ i-end i values

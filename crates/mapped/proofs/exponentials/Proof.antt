@@ -1,11 +1,11 @@
--- `measured::zescolumba_exponentials` meets its contract.
+-- `mapped::exponentials` meets its contract.
 use borrow.Author.Needs.{needs}
 use Prim.Native.Nat.{_-_}
 use mathlib.Core.Path.{refl}
 use Rattle.elementary.specs.Exp.{expv}
-use Rattle.measured.proofs.Mapping.{Mapping, start, next, done}
-use Rattle.measured.proofs.zescolumba_exponentials.Statement.{statement}
-use Rattle.measured.proofs.zescolumba_exponentials.Tie as tie
+use Rattle.mapped.proofs.Mapping.{Mapping, start, next, done}
+use Rattle.mapped.proofs.exponentials.Statement.{statement}
+use Rattle.mapped.proofs.exponentials.Tie as tie
 
 abbrev Inv-loop : tie.InvT-loop
 Inv-loop values₀ i₀ i-end values i = Mapping expv values₀ i-end i values
@@ -13,8 +13,8 @@ Inv-loop values₀ i₀ i-end values i = Mapping expv values₀ i-end i values
 abbrev μ-loop : tie.MeasureT-loop
 μ-loop values₀ i₀ i-end values i = i-end - i
 
-pub zescolumba-exponentials-spec : {M : Type 1} → statement M
-zescolumba-exponentials-spec =
+pub exponentials-spec : {M : Type 1} → statement M
+exponentials-spec =
     tie.close
     (tie.spec Inv-loop μ-loop
     (λ c. start refl)
