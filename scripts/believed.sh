@@ -33,7 +33,7 @@ count() {
             return (n < 3 || part[2] != "specs") ? "" : "crates/" part[1] "/specs/" part[3] ".antt"
         }
         function import(line,   path, names, n, name, i) {
-            sub(/^ *use /, "", line)
+            sub(/^ *(unfoldable )?(pub )?use /, "", line)
             if (line ~ / as /) {
                 path = line; sub(/ as .*/, "", path); sub(/.* as /, "", line); gsub(/ /, "", line)
                 if (file_of(path) != "") { alias[file, line] = file_of(path); uses[file] = uses[file] " " file_of(path) }
@@ -41,7 +41,6 @@ count() {
             }
             path = line; sub(/\.\{.*/, "", path); sub(/.*\.\{/, "", line); gsub(/[} ]/, "", line)
             if (file_of(path) == "") return
-            uses[file] = uses[file] " " file_of(path)
             n = split(line, name, ",")
             for (i = 1; i <= n; i++) from[file, name[i]] = file_of(path)
         }
@@ -58,7 +57,7 @@ count() {
         }
         FNR == 1 { file = FILENAME; base = 0; head = 0; now = 0 }
         /^ *(--.*)?$/ || /^ *pub mod / || /^ *unfolding / { next }
-        /^ *use / { import($0); next }
+        /^ *(unfoldable )?(pub )?use / { import($0); next }
         {
             match($0, /^ */); indent = RLENGTH
             if (indent == 0) { base = 0; head = 0 }
@@ -76,21 +75,27 @@ count() {
         }
         function cite(i) { if (i && !(i in cited)) { cited[i]; queue[++last] = i } }
         function reach(f,   part, n, i) {
-            if (f in reached) return
+            if (f in reached || !total[f]) return
             reached[f]
             n = split(uses[f], part, " ")
             for (i = 1; i <= n; i++) reach(part[i])
         }
+        # the file that defines what file f imports by this name, through those that hand it on
+        function origin(f, word) {
+            while ((f, word) in from) f = from[f, word]
+            return f
+        }
         # what a word of file f names
         function look(f, word,   i, a) {
             if ((f, word) in at) return at[f, word]
-            if ((f, word) in from) return at[from[f, word], word]
+            if ((f, word) in from) return at[origin(f, word), word]
             i = index(word, ".")
             if (i < 2) return 0
             a = substr(word, 1, i - 1)
             return ((f, a) in alias) ? at[alias[f, a], substr(word, i + 1)] : 0
         }
         END {
+            for (pair in from) { split(pair, part, SUBSEP); uses[part[1]] = uses[part[1]] " " origin(part[1], part[2]) }
             n = split(demands, demand, " ")
             for (f in uses) for (i = 1; i <= n; i++) if ((f, "demand-" demand[i]) in at) { root[at[f, "demand-" demand[i]]]; cite(at[f, "demand-" demand[i]]) }
             for (k = 1; k <= last; k++) {

@@ -13,7 +13,7 @@ defined() {
         { match($0, /^ */) }
         RLENGTH != base { next }
         { sub(/^ */, "") }
-        !/^((abbrev|unfoldable) )?pub / || /^pub mod / { next }
+        !/^((abbrev|unfoldable) )?pub / || /^pub mod / || /^(unfoldable )?pub use / { next }
         { sub(/^((abbrev|unfoldable) )?pub ((record|data) )?/, ""); print $1, FILENAME }' crates/*/specs/*.antt
     awk '/^pub (struct|enum|type) / { sub(/[^A-Za-z0-9_].*/, "", $3); print $3, FILENAME }' crates/*/src/*.rt
 }

@@ -93,7 +93,7 @@ trap 'trap "" TERM; kill -TERM 0; exit 130' INT
 others=("${crates[@]:0:${#crates[@]}-1}")
 for crate in "${others[@]}"; do
     if older "target/stamp/$crate" "$crate"; then
-        minutes=$(((${#crates[@]} * (jobs > 1 ? 9 : 14) + 59) / 60))
+        minutes=$(((${#crates[@]} * (jobs > 1 ? 6 : 10) + 59) / 60))
         echo "Proving what is new of the ${#crates[@]} crates in $made, $jobs at a time: all of them take about $minutes minutes, once." >&2
         prove_others
         break

@@ -22,7 +22,7 @@ wrong=$(
         file=${file// /}
         [ "$(wc -l <"$file")" -eq "${lines:-0}" ] || echo "$file has not $lines lines"
     done 2>&1
-    find crates -path '*/specs/*.antt' -o -path '*/src/*.rt' | sort | xargs grep -nE '^ *(ghost )?use [^ ]*(\.|·)proofs(\.|·|;| |$)' |
+    find crates -path '*/specs/*.antt' -o -path '*/src/*.rt' | sort | xargs grep -nE '^ *(ghost |unfoldable )?(pub )?use [^ ]*(\.|·)proofs(\.|·|;| |$)' |
         sed 's/^/imports from proofs: /'
 )
 [ -z "$wrong" ] || { echo "$wrong"; exit 1; }

@@ -23,13 +23,22 @@ if part fmt rustfmt; then
     cargo fmt --check >/dev/null
     note $? "cargo fmt --check"
 fi
+# The comparison needs the byte calls alone: it is built first, and runs while what is timed is proved and the rest is compiled.
+log=$(mktemp)
+compared=$(mktemp)
+if cargo build --offline --release --quiet --package compare; then
+    ../target/cargo/release/compare >"$compared" &
+else
+    false &
+fi
+comparing=$!
+trap 'kill "$comparing" 2>/dev/null; rm -f "$log" "$compared"' EXIT
+
 if part clippy clippy; then
     cargo clippy --offline --quiet --release --all-targets -- -D warnings
     note $? "cargo clippy"
 fi
 
-log=$(mktemp)
-trap 'rm -f "$log"' EXIT
 cargo test --offline --release --no-fail-fast 2>&1 | tee "$log" | grep -E '^(test result|test .*FAILED|error)'
 status=${PIPESTATUS[0]}
 # Each test counts, by the lines 'test result: ok. 9 passed; 0 failed; ..'.
@@ -39,13 +48,14 @@ while read -r good bad; do
 done < <(sed -n 's/^test result: .* \([0-9]*\) passed; \([0-9]*\) failed;.*/\1 \2/p' "$log")
 note "$status" "cargo test"
 
-cargo run --offline --release --quiet --package compare | tee "$log" | grep -v '^comparison with 000: '
-status=${PIPESTATUS[0]}
+wait "$comparing"
+status=$?
+grep -v '^comparison with 000: ' "$compared"
 # 3: the source of 000 is missing, and the comparison has said where it is looked for.
 if [ "$status" -eq 3 ]; then
     remark='comparison with 000 left out: its source is not here'
 else
     note "$status" "comparison with 000"
-    remark=$(grep '^comparison with 000: ' "$log" || echo 'comparison with 000: it gave no verdict')
+    remark=$(grep '^comparison with 000: ' "$compared" || echo 'comparison with 000: it gave no verdict')
 fi
 verdict

@@ -36,8 +36,8 @@ run() {
     [[ $before != 'comparison with 000'* ]] || remark=$before
 }
 
-# Four at a time, so that no processor waits for the longer of two must-fail edits.
-RT_JOBS=${RT_JOBS:-4} run bash scripts/turn.sh rt ci
+# As many at a time as there are processors, which is rt's own choice: more of them take longer together than one after the other.
+run bash scripts/turn.sh rt ci
 run bash scripts/listings.sh
 bash scripts/prefixes.sh target/bin/gwrprint tests/listings/gaussian-distance.job
 note $? "gwrprint on every prefix of a job (scripts/prefixes.sh)"

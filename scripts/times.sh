@@ -71,12 +71,12 @@ trap 'rm -rf "$room"' EXIT
 case $# in
 0)
     began=$(date +%s)
-    RT_JOBS=${RT_JOBS:-4} bash scripts/turn.sh rt ci >"$room/log" 2>&1
+    bash scripts/turn.sh rt ci >"$room/log" 2>&1
     status=$?
     took=$(($(date +%s) - began))
     read_as one "$room/log"
     table <"$room/one"
-    echo "rt ci took $took s with RT_JOBS=${RT_JOBS:-4}"
+    echo "rt ci took $took s, ${RT_JOBS:-$(nproc)} at a time"
     [ "$status" -eq 0 ] || { grep -E '^rt: (FAILED|.*(NOT PROVED|NOT REFUSED|BAD EDIT|FAILED))' "$room/log" >&2; exit "$status"; }
     ;;
 1) read_as one "$1" && table <"$room/one" ;;

@@ -1,4 +1,4 @@
--- The calls' parts, one law for each arm of the code.
+-- The fit call's parts, one law for each arm of the code.
 use mathlib.Core.Path.{_≡_, refl, sym, ap, subst, _∙_}
 use mathlib.Core.Bool.{Bool, true, false, cond}
 use mathlib.Core.List.{List}
@@ -13,7 +13,6 @@ use Rattle.real.specs.Reals.{zero64}
 use Rattle.wire.specs.Wire.{reals, realBytes, placed}
 use Rattle.refusal.specs.declared.Refusal.{Refusal}
 use Rattle.refusal.specs.Numbers.{refusalNumber}
-use Rattle.kernel.specs.declared.Weighed.{Weighed}
 use Rattle.criterion.specs.declared.Summary.{Summary}
 use Rattle.setup.specs.declared.GwrOptions.{GwrOptions}
 use Rattle.setup.specs.Data.{Data, dataOf}
@@ -23,28 +22,11 @@ use Rattle.gwr.specs.declared.FitAnswer.{FitAnswer}
 use Rattle.gwr.specs.declared.FitAnswer.the-variants.{Done, Rejected}
 use Rattle.gwr.specs.declared.Fit.{Fit}
 use Rattle.gwr.specs.Fit.{gwrFit}
-use Rattle.calls.specs.declared.Choice.{Choice}
-use Rattle.calls.specs.declared.Choice.the-variants as choice
-use Rattle.calls.specs.declared.KernelChoice.{KernelChoice}
-use Rattle.calls.specs.Options.{kernelOf, isUnknownKernel, namedKernel, kindOf, optionsOf}
-use Rattle.calls.specs.Calls.{AfterCall, placedRows, answerBytes, fittedBytes, fitParts, roomOf, summaryBytes, placedWeight, Writable, Roomy, Offered}
+use Rattle.calls.specs.Calls.{AfterCall, placedRows, answerBytes, fittedBytes, fitParts, roomOf, summaryBytes, Writable, Roomy, Offered}
 use Rattle.gwr.proofs.Bounds.{Sound, Fits, fits}
 
 pub triple : {n m : ℕ} {a b c d : List ℕ} → n ≡ m → a ≡ b → c ≡ d → _≡_ {A = AfterCall} (n, (a, c)) (m, (b, d))
 triple p q r = cc
-
-pub both : {n m : ℕ} {a b : List ℕ} → n ≡ m → a ≡ b → _≡_ {A = ℕ × List ℕ} (n, a) (m, b)
-both p q = cc
-
--- ---- options
-
--- the options of a kernel that was read
-abbrev pub optionsWith : KernelChoice → ℕ → ℕ → Choice
-optionsWith k kind bandwidth = cond (isUnknownKernel k) choice.Unknown (kindOf (namedKernel k) kind bandwidth)
-
-pub options-are : (number kind bandwidth : ℕ) (k : KernelChoice) (r : Choice) → kernelOf number ≡ k → r ≡ optionsWith k kind bandwidth → r ≡ optionsOf number kind bandwidth
-unfolding optionsOf
-options-are number kind bandwidth k r e h = h ∙ sym (ap (λ (z : KernelChoice). optionsWith z kind bandwidth) e)
 
 -- ---- an answer's bytes
 
@@ -139,8 +121,3 @@ module _ (coords x y : List ℕ) (p : ℕ) (o : GwrOptions) (out summary : List 
       ∙ ap (λ (l : List Float). fittedBytes p (gwrFit (dataOf (reals coords (2 * n)) (reals x (n * p)) l) p o z) out summary) ey
       ∙ ap (λ (l : List Float). fittedBytes p (gwrFit (dataOf (reals coords (2 * n)) (reals x (n * p)) (reals y n)) p o l) out summary) ez
       ∙ ap (λ (k : ℕ). fittedBytes p (gwrFit (dataOf (reals coords (2 * n)) (reals x (n * p)) (reals y n)) p o (replicate k zero64)) out summary) er
-
--- ---- a weight
-
-pub placed-is : (w v : Weighed) (out : List ℕ) (r : ℕ × List ℕ) → w ≡ v → r ≡ placedWeight v out → r ≡ placedWeight w out
-placed-is w v out r e h = h ∙ sym (ap (λ (z : Weighed). placedWeight z out) e)

@@ -1,6 +1,6 @@
 -- Bytes laid over the front of a list: those of rows, those of a summary, and what a call's zeros are.
 use mathlib.Core.Path.{_≡_, refl, sym, ap, _∙_}
-use mathlib.Core.List.{List, [], _∷_, _++_, append-assoc}
+use mathlib.Core.List.{List, _∷_, _++_, append-assoc}
 use Prim.Native.Nat.{ℕ, zero, suc, _+_, _*_, _≤_}
 use native.Mathlib.Omega.{arith}
 use lib.ListN.{length, take, drop, replicate, length-append, length-replicate}
@@ -14,12 +14,7 @@ use Rattle.wire.proofs.Decoding.{length-reals}
 use Rattle.criterion.specs.declared.Summary.{Summary}
 use Rattle.calls.specs.Calls.{summaryBytes}
 
--- one number at the front
-pub front-placed : (s : List ℕ) (v : ℕ) → take 0 s ++ (bytesOf v ++ drop (0 + 8) s) ≡ placed s 0 (bytesOf v)
-unfolding placed
-front-placed s v = sym (ap (λ (n : ℕ). take 0 s ++ (bytesOf v ++ drop (0 + n) s)) (length-bytesOf v))
-
--- one number further on
+-- one number
 at-placed : (s : List ℕ) (at v : ℕ) → take at s ++ (bytesOf v ++ drop (at + 8) s) ≡ placed s at (bytesOf v)
 unfolding placed
 at-placed s at v = sym (ap (λ (n : ℕ). take at s ++ (bytesOf v ++ drop (at + n) s)) (length-bytesOf v))

@@ -19,7 +19,7 @@ use Rattle.checks.specs.Judge.{judge, ruled}
 use Rattle.sweep.specs.declared.Finish.the-variants.{Fitted, Failed}
 use Rattle.gwr.specs.declared.FitAnswer.{FitAnswer}
 use Rattle.gwr.specs.declared.FitAnswer.the-variants.{Done, Rejected}
-use Rattle.calls.specs.Options.{optionsOf, named}
+use Rattle.request.specs.Options.{optionsOf, named}
 use Rattle.calls.specs.Calls.{AfterCall, refusedCall, summaryBytes, placedRows, answerBytes, fittedBytes, numbersOf, numbersFit, callTests, fitBytes}
 use Rattle.gwr.proofs.Bounds.{Sound, fits}
 

@@ -1,23 +1,18 @@
--- The fit call and the weight call go by their lists of tests: what the code's ladder does is what the list says.
+-- The fit call goes by its list of tests: what the code's ladder does is what the list says.
 use mathlib.Core.Path.{_≡_, refl, sym, ap, _∙_}
-use mathlib.Core.Bool.{Bool, true, false, cond, not, _||_}
-use mathlib.Core.List.{List, [], _∷_, _++_, append-assoc}
+use mathlib.Core.Bool.{Bool, true, false, cond, _||_}
+use mathlib.Core.List.{List, _∷_, _++_, append-assoc}
 use Prim.Native.Nat.{ℕ, _+_, _*_, _/_, _%_, _≤_, _<_}
 use native.Mathlib.Nat.{mul-le-mul}
 use native.Mathlib.Omega.{arith}
-use borrow.Author.Tests.{ltb-false, eqb-true, eqb-false, not-false, eq-eqb, ne-eqb, lt-ltb, le-ltb}
+use borrow.Author.Tests.{eq-eqb, ne-eqb, lt-ltb, le-ltb}
 use lib.Dec.{ltb}
 use lib.ListN.{length, replicate, length-replicate}
-use lib.Ieee.{Float, le}
+use lib.Ieee.{Float}
 use Rattle.real.specs.Reals.{zero64}
-use Rattle.wire.specs.Wire.{realOf}
 use Rattle.wire.proofs.Decoding.{length-reals}
 use Rattle.refusal.specs.declared.Refusal.{Refusal}
-use Rattle.refusal.specs.declared.Refusal.the-variants.{TooFewObservations, OutputTooShort, CoordinateNotFinite, UnknownNumber}
-use Rattle.kernel.specs.declared.GwrKernel.{GwrKernel}
-use Rattle.kernel.specs.declared.Weighed.{Weighed}
-use Rattle.kernel.specs.declared.Weighed.the-variants.{Weight, BadDistance}
-use Rattle.kernel.specs.Weight.{weightOf, weighed}
+use Rattle.refusal.specs.declared.Refusal.the-variants.{TooFewObservations, OutputTooShort, UnknownNumber}
 use Rattle.setup.specs.declared.GwrOptions.{GwrOptions}
 use Rattle.setup.specs.Data.{Data}
 use Rattle.setup.specs.Shape.{setupOf}
@@ -25,44 +20,15 @@ use Rattle.checks.specs.declared.Check.{Check}
 use Rattle.checks.specs.declared.Check.the-variants as check
 use Rattle.checks.specs.Judge.{judge, ruled, NoneOf, Decides}
 use Rattle.checks.proofs.Judge.{ruled-append, ruled-refused, ruled-pass, none-head, none-append, decides}
-use Rattle.plan.specs.Checks.{shapeTests, valueTests, outputTests, inputTests, optionTests, fitTests}
+use Rattle.input.specs.Checks.{shapeTests, valueTests, outputTests, inputTests, optionTests, fitTests}
 use Rattle.gwr.specs.declared.Fit.{Fit}
 use Rattle.gwr.specs.Fit.{gwrFit}
-use Rattle.calls.specs.declared.Choice.the-variants as choice
-use Rattle.calls.specs.declared.KernelChoice.the-variants as kernel
-use Rattle.calls.specs.Options.{kernelOf, namedKernel, optionsOf, named}
-use Rattle.calls.specs.Calls.{partTests, byteTests, numbersOf, lentTooShort, numberTests, callTests, AfterCall, refusedCall, fittedBytes, numbersFit, fitBytes, distanceTests, weightTests, refusedWeight, givenWeight, weightBytes, roomOf, fitParts, ByteLengths, placedWeight, weighedBytes}
+use Rattle.request.specs.declared.Choice.the-variants as choice
+use Rattle.request.specs.Options.{optionsOf, named}
+use Rattle.request.proofs.Lengths.{passed}
+use Rattle.calls.specs.Calls.{numbersOf, lentTooShort, numberTests, callTests, AfterCall, refusedCall, fittedBytes, numbersFit, fitBytes, roomOf, fitParts}
+use Rattle.request.specs.Lengths.{byteTests, ByteLengths}
 use Rattle.gwr.proofs.Bounds.{fit-decides}
-
--- ---- 1 to 6 of bytes
-
--- byte lengths that refusals 1 to 6 let pass
-pub passed : (coords x y p : ℕ) → NoneOf (byteTests coords x y p) → ByteLengths coords x y p
-unfolding byteTests partTests
-passed coords x y p h =
-    let t1 = none-head _ _ _ h in
-    let t2 = none-head _ _ _ (t1 .1) in
-    let t3 = none-head _ _ _ (t2 .1) in
-    let t4 = none-head _ _ _ (t3 .1) in
-    let t5 = none-head _ _ _ (t4 .1) in
-    let t6 = none-head _ _ _ (t5 .1) in
-    let some : coords ≡ 0 → ⊥ = eqb-false _ _ (t1 .0) in
-    let even : coords % 16 ≤ 0 = ltb-false _ _ (t2 .0) in
-    record {
-      some = omega arith;
-      few = ltb-false _ _ (t3 .0);
-      narrow = ltb-false _ _ (t4 .0);
-      places = omega arith;
-      rows = eqb-true _ _ (not-false _ (t5 .0));
-      responses = eqb-true _ _ (not-false _ (t6 .0));
-    }
-
--- and those that pass
-pub lengths-pass : (coords x y p : ℕ) → ByteLengths coords x y p → NoneOf (byteTests coords x y p)
-unfolding judge byteTests partTests
-lengths-pass coords x y p h =
-    let z : coords ≡ 0 → ⊥ = λ q. omega (arith, h .some, q) in
-    rw (ne-eqb coords 0 z, le-ltb 0 (coords % 16) (omega (arith, h .places)), le-ltb 512 (coords / 16) (h .few), le-ltb 7 p (h .narrow), eq-eqb x (8 * (coords / 16 * p)) (h .rows), eq-eqb y (8 * (coords / 16)) (h .responses))
 
 -- ---- 13
 
@@ -186,48 +152,3 @@ module _ (coords x y : List ℕ) (p : ℕ) (out summary : List ℕ) where
     pub call-decides : Decides (callTests coords x y p kernel kind bandwidth (length out) (length summary)) (λ (r : Refusal). call ≡ refuse r) (call ≡ given (named (optionsOf kernel kind bandwidth)))
     unfolding fitBytes
     call-decides = decides (callTests coords x y p kernel kind bandwidth (length out) (length summary)) refl
-
--- ---- the weight call
-
--- `weigh_distance` refuses exactly a NaN or negative distance
-pub weigh-decides : (k : GwrKernel) (d b : Float) → Decides (distanceTests d) (λ (r : Refusal). weighed k d b ≡ BadDistance) (weighed k d b ≡ Weight (weightOf k d b))
-unfolding weighed judge
-weigh-decides k d b = record { refused = λ r e. bad (le zero64 d) r e; served = λ e. good (le zero64 d) e }
-  where
-    bad : (c : Bool) (r : Refusal) → cond (not c) (check.Refused CoordinateNotFinite) check.Pass ≡ check.Refused r → cond c (Weight (weightOf k d b)) BadDistance ≡ BadDistance
-    bad true r e = cc
-    bad false r e = refl
-
-    good : (c : Bool) → cond (not c) (check.Refused CoordinateNotFinite) check.Pass ≡ check.Pass → cond c (Weight (weightOf k d b)) BadDistance ≡ Weight (weightOf k d b)
-    good true e = refl
-    good false e = cc
-
-module _ (number d b : ℕ) (out : List ℕ) where
-  -- 18
-  pub weight-unknown : kernelOf number ≡ kernel.Unknown → weightBytes number d b out ≡ refusedWeight UnknownNumber out
-  unfolding weightBytes weightTests judge ruled
-  weight-unknown e = rw e
-
-  -- 13, 9 and the weight
-  weight-known : (k : GwrKernel) → kernelOf number ≡ kernel.Known k → weightBytes number d b out ≡ weighedBytes (weighed k (realOf d) (realOf b)) out
-  unfolding weightBytes weightTests weighedBytes weighed judge ruled
-  weight-known k e = rw e (go (ltb (length out) 8) (le zero64 (realOf d)))
-    where
-      w : Float
-      w = weightOf k (realOf d) (realOf b)
-
-      go : (s f : Bool)
-          → ruled (cond s (check.Refused OutputTooShort) (cond (not f) (check.Refused CoordinateNotFinite) check.Pass)) (λ (r : Refusal). refusedWeight r out) (givenWeight w out)
-          ≡ cond s (refusedWeight OutputTooShort out) (placedWeight (cond f (Weight w) BadDistance) out)
-      go true f = refl
-      go false true = refl
-      go false false = refl
-
-  -- the weight of a known kernel, as the code comes to it
-  pub weight-weighed : (k : GwrKernel) (x y : Float) (w : Weighed) → kernelOf number ≡ kernel.Known k → x ≡ realOf d → y ≡ realOf b → w ≡ weighed k x y → weighedBytes w out ≡ weightBytes number d b out
-  weight-weighed k x y w e ex ey ew =
-      ap (λ (z : Weighed). weighedBytes z out) (ew ∙ ap (λ (z : Float). weighed k z y) ex ∙ ap (λ (z : Float). weighed k (realOf d) z) ey) ∙ sym (weight-known k e)
-
-  pub weight-decides : Decides (weightTests number d (length out)) (λ (r : Refusal). weightBytes number d b out ≡ refusedWeight r out) (weightBytes number d b out ≡ givenWeight (weightOf (namedKernel (kernelOf number)) (realOf d) (realOf b)) out)
-  unfolding weightBytes
-  weight-decides = decides (weightTests number d (length out)) refl

@@ -20,15 +20,17 @@ use Rattle.criterion.specs.declared.Summary.{Summary}
 use Rattle.criterion.specs.Aicc.{failedSummary}
 use Rattle.checks.specs.Judge.{judge, NoneOf}
 use Rattle.checks.proofs.Judge.{none-head, none-append}
-use Rattle.plan.specs.Checks.{valueTests, fitTests}
+use Rattle.input.specs.Checks.{valueTests, fitTests}
 use Rattle.sweep.specs.declared.Finish.the-variants.{Fitted, Failed}
 use Rattle.gwr.specs.declared.FitAnswer.{FitAnswer}
 use Rattle.gwr.specs.declared.FitAnswer.the-variants.{Done, Rejected}
 use Rattle.gwr.specs.declared.Fit.{Fit}
 use Rattle.gwr.proofs.Bounds.{fits}
-use Rattle.calls.specs.Options.{optionsOf, isUnknown, named}
-use Rattle.calls.specs.Calls.{byteTests, numbersOf, numberTests, callTests, AfterCall, summaryBytes, placedRows, answerBytes, numbersFit, fitBytes, ByteLengths}
-use Rattle.calls.proofs.Judged.{passed, room-enough, fit-judged, call-decides}
+use Rattle.request.specs.Options.{optionsOf, isUnknown, named}
+use Rattle.calls.specs.Calls.{numbersOf, numberTests, callTests, AfterCall, summaryBytes, placedRows, answerBytes, numbersFit, fitBytes}
+use Rattle.request.specs.Lengths.{byteTests, ByteLengths}
+use Rattle.calls.proofs.Judged.{room-enough, fit-judged, call-decides}
+use Rattle.request.proofs.Lengths.{passed}
 
 -- ---- bytes behind those that are placed
 

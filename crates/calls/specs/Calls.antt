@@ -1,46 +1,30 @@
--- The byte calls: the list of tests of each, what they answer, and every byte that they leave. Definitions only.
-use Prim.Native.Nat.{ℕ, _+_, _*_, _/_, _%_, _≤_}
-use mathlib.Core.Path.{_≡_}
-use mathlib.Core.Bool.{Bool, cond, not, _||_}
-use mathlib.Core.List.{List, [], _∷_, _++_}
-use lib.Dec.{eqb, ltb}
+-- The fit call: its list of tests, what it answers, and every byte that it leaves. Definitions only.
+use Prim.Native.Nat.{ℕ, _+_, _*_, _/_, _≤_}
+use mathlib.Core.Bool.{Bool, cond, _||_}
+use mathlib.Core.List.{List, _∷_, _++_}
+use lib.Dec.{ltb}
 use lib.ListN.{length, take, replicate}
-use lib.Ieee.{Float, le}
+use lib.Ieee.{Float}
 use Rattle.real.specs.Reals.{zero64}
-use Rattle.wire.specs.Wire.{bitsOf, realOf, bytesOf, reals, realBytes, placed}
+use Rattle.wire.specs.Wire.{bitsOf, bytesOf, reals, realBytes, placed}
 use Rattle.refusal.specs.Numbers.{refusalNumber}
 use Rattle.refusal.specs.declared.Refusal.{Refusal}
-use Rattle.refusal.specs.declared.Refusal.the-variants.{NoCoordinates, OddCoordinates, TooManyObservations, TooManyPredictors, PredictorLength, ResponseLength, TooFewObservations, CoordinateNotFinite, OutputTooShort, UnknownNumber}
+use Rattle.refusal.specs.declared.Refusal.the-variants.{TooFewObservations, OutputTooShort, UnknownNumber}
 use Rattle.checks.specs.Judge.{judge, ruled}
-use Rattle.kernel.specs.declared.Weighed.{Weighed}
-use Rattle.kernel.specs.declared.Weighed.the-variants.{Weight, BadDistance}
-use Rattle.kernel.specs.Weight.{weightOf}
 use Rattle.setup.specs.declared.GwrOptions.{GwrOptions}
 use Rattle.setup.specs.Data.{Data, dataOf}
 use Rattle.setup.specs.Shape.{setupOf}
 use Rattle.criterion.specs.declared.Summary.{Summary}
-use Rattle.plan.specs.Checks.{valueTests, optionTests}
+use Rattle.input.specs.Checks.{valueTests, optionTests}
 use Rattle.sweep.specs.declared.Finish.the-variants.{Fitted, Failed}
 use Rattle.gwr.specs.declared.FitAnswer.{FitAnswer}
 use Rattle.gwr.specs.declared.FitAnswer.the-variants.{Done, Rejected}
 use Rattle.gwr.specs.declared.Fit.{Fit}
 use Rattle.gwr.specs.Fit.{gwrFit}
-use Rattle.calls.specs.Options.{kernelOf, isUnknownKernel, namedKernel, optionsOf, isUnknown, named}
+use Rattle.request.specs.Lengths.{byteTests}
+use Rattle.request.specs.Options.{optionsOf, isUnknown, named}
 
 -- ---- the fit call's tests
-
--- 01: 5 predictor bytes not 8·n·p, 6 response bytes not 8·n
-unfoldable pub partTests : ℕ → ℕ → ℕ → ℕ → List (Bool × Refusal)
-partTests x y n p = (not (eqb x (8 * (n * p))), PredictorLength) ∷ (not (eqb y (8 * n)), ResponseLength) ∷ []
-
--- 01: 1 no coordinates, 2 coordinate bytes not 16 for each observation, 3 n > 512, 4 p > 7, then 5 and 6, of the byte lengths of coordinates, predictors and responses
-unfoldable pub byteTests : ℕ → ℕ → ℕ → ℕ → List (Bool × Refusal)
-byteTests coords x y p =
-    (eqb coords 0, NoCoordinates)
-    ∷ (ltb 0 (coords % 16), OddCoordinates)
-    ∷ (ltb 512 (coords / 16), TooManyObservations)
-    ∷ (ltb 7 p, TooManyPredictors)
-    ∷ partTests x y (coords / 16) p
 
 -- the numbers that the bytes of coordinates, predictors and responses are, of p predictors; n is a sixteenth of the coordinates' bytes
 abbrev pub numbersOf : List ℕ → List ℕ → List ℕ → ℕ → Data
@@ -104,31 +88,6 @@ fitBytes coords x y p kernel kind bandwidth out summary =
     (λ (r : Refusal). refusedCall r out summary)
     (fittedBytes p (numbersFit coords x y p (named (optionsOf kernel kind bandwidth))) out summary)
 
--- ---- the weight call
-
--- a distance that is NaN or negative
-abbrev pub distanceTests : Float → List (Bool × Refusal)
-distanceTests d = (not (le zero64 d), CoordinateNotFinite) ∷ []
-
--- 01's order for the weight call: 18, 13 fewer than 8 bytes, 9
-unfoldable pub weightTests : ℕ → ℕ → ℕ → List (Bool × Refusal)
-weightTests kernel d out = (isUnknownKernel (kernelOf kernel), UnknownNumber) ∷ (ltb out 8, OutputTooShort) ∷ distanceTests (realOf d)
-
--- 01: the weight call gives 9 and the weight 0 for a refused d; 18 and 13 write nothing
-abbrev pub refusedWeight : Refusal → List ℕ → ℕ × List ℕ
-refusedWeight r out = (refusalNumber r, cond (eqb (refusalNumber r) 9) (placed out 0 (bytesOf 0)) out)
-
--- a weight in the first 8 bytes
-abbrev pub givenWeight : Float → List ℕ → ℕ × List ℕ
-givenWeight w out = (0, placed out 0 (bytesOf (bitsOf w)))
-
--- the weight of the distance of bits d at the bandwidth of bits b: the number answered, and the bytes after the call
-unfoldable pub weightBytes : ℕ → ℕ → ℕ → List ℕ → ℕ × List ℕ
-weightBytes kernel d b out =
-    ruled (judge (weightTests kernel d (length out)))
-    (λ (r : Refusal). refusedWeight r out)
-    (givenWeight (weightOf (namedKernel (kernelOf kernel)) (realOf d) (realOf b)) out)
-
 -- ---- what the code's parts give and need
 
 -- how many numbers the fit may write: n rows, or none where 13 is owed
@@ -139,15 +98,6 @@ roomOf n p out summary = cond (ltb summary 24) 0 (cond (ltb out (8 * (n * (p + 4
 unfoldable pub fitParts : List ℕ → List ℕ → List ℕ → ℕ → GwrOptions → List ℕ → List ℕ → AfterCall
 fitParts coords x y p o out summary =
     fittedBytes p (gwrFit (numbersOf coords x y p) p o (replicate (roomOf (length coords / 16) p (length out) (length summary)) zero64)) out summary
-
--- the byte lengths that 1 to 6 let pass
-pub record ByteLengths (coords x y p : ℕ) : Type 0 where
-  pub some : 1 ≤ coords / 16
-  pub few : coords / 16 ≤ 512
-  pub narrow : p ≤ 7
-  pub places : coords ≡ 16 * (coords / 16)
-  pub rows : x ≡ 8 * (coords / 16 * p)
-  pub responses : y ≡ 8 * (coords / 16)
 
 -- room for what an answer writes: `count` of `rows` numbers, and the summary
 pub record Writable (count rows out summary : ℕ) : Type 0 where
@@ -163,12 +113,3 @@ Roomy (Rejected r) count rows out summary = Unit
 pub record Offered (room out summary : ℕ) : Type 0 where
   pub bytes : 8 * room ≤ out
   pub whole : 1 ≤ room → 24 ≤ summary
-
--- what `weigh_distance` said, in the first 8 bytes
-abbrev pub placedWeight : Weighed → List ℕ → ℕ × List ℕ
-placedWeight (Weight w) out = givenWeight w out
-placedWeight BadDistance out = refusedWeight CoordinateNotFinite out
-
--- the same, or 13
-unfoldable pub weighedBytes : Weighed → List ℕ → ℕ × List ℕ
-weighedBytes w out = cond (ltb (length out) 8) (refusedWeight OutputTooShort out) (placedWeight w out)

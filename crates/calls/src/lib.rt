@@ -1,123 +1,19 @@
-// The fit and the weight call on bytes.
+// The fit call on bytes.
 ghost use mathlib.Core.Path.{_≡_};
 ghost use Prim.Native.Nat.{_+_, _*_, _/_, _≤_, _<_};
 ghost use lib.ListN.{length, take};
-ghost use Rattle.checks.specs.Judge.{judge};
 ghost use Rattle.wire.specs.Wire.{realBytes, placed};
-ghost use Rattle.calls.specs.Options.{kernelOf, kindOf, chosenOf, optionsOf};
-ghost use Rattle.calls.specs.Calls.{partTests, byteTests, roomOf, summaryBytes, answerBytes, fittedBytes, fitParts, fitBytes, placedWeight, weighedBytes, weightBytes, ByteLengths, Roomy, Offered};
+ghost use Rattle.calls.specs.Calls.{roomOf, summaryBytes, answerBytes, fittedBytes, fitParts, fitBytes, Roomy, Offered};
+ghost use Rattle.request.specs.Lengths.{ByteLengths};
 ghost use Rattle.setup.specs.Data.{dataOf};
 ghost use Rattle.gwr.specs.Fit.{gwrFit};
 use checks::Check;
 use criterion::Summary;
 use gwr::FitAnswer;
-use kernel::GwrKernel;
-use kernel::Weighed;
 use refusal::Refusal;
-use setup::GwrBandwidth;
+use request::Choice;
 use setup::GwrOptions;
 use sweep::Finish;
-
-// Options from their numbers, of which 18 refuses the unknown.
-pub enum Choice {
-    Known(GwrOptions),
-    Unknown,
-}
-
-pub enum KernelChoice {
-    Known(GwrKernel),
-    Unknown,
-}
-
-fn kernel_of(number: u64) -> KernelChoice
-    ensures { λ r. ⌜ r ≡ kernelOf number ⌝ }
-{
-    if number == 0 {
-        return KernelChoice::Known(GwrKernel::Gaussian);
-    }
-    if number == 1 {
-        return KernelChoice::Known(GwrKernel::Bisquare);
-    }
-    if number == 2 {
-        return KernelChoice::Known(GwrKernel::Exponential);
-    }
-    KernelChoice::Unknown
-}
-
-fn chosen_of(kernel: GwrKernel, bandwidth: GwrBandwidth, optimize_bandwidth: bool) -> Choice
-    ensures { λ r. ⌜ r ≡ chosenOf kernel bandwidth «optimize_bandwidth» ⌝ }
-{
-    let options = GwrOptions {
-        kernel,
-        bandwidth,
-        optimize_bandwidth,
-    };
-    Choice::Known(options)
-}
-
-// Kind 0 is a distance and 1 a count; 2 and 3 are the same, searched.
-fn kind_of(kernel: GwrKernel, kind: u64, bandwidth: u64) -> Choice
-    ensures { λ r. ⌜ r ≡ kindOf kernel kind bandwidth ⌝ }
-{
-    if kind == 0 {
-        return chosen_of(kernel, GwrBandwidth::Fixed(wire::real_of(bandwidth)), false);
-    }
-    if kind == 1 {
-        return chosen_of(kernel, GwrBandwidth::AdaptiveKnn(bandwidth as usize), false);
-    }
-    if kind == 2 {
-        return chosen_of(kernel, GwrBandwidth::Fixed(wire::real_of(bandwidth)), true);
-    }
-    if kind == 3 {
-        return chosen_of(kernel, GwrBandwidth::AdaptiveKnn(bandwidth as usize), true);
-    }
-    Choice::Unknown
-}
-
-// The options of the numbers of kernel and kind, and of the bandwidth's bits or count.
-pub fn options_of(kernel: u64, kind: u64, bandwidth: u64) -> Choice
-    ensures { λ r. ⌜ r ≡ optionsOf kernel kind bandwidth ⌝ }
-{
-    let known = kernel_of(kernel);
-    match known {
-        KernelChoice::Known(k) => kind_of(k, kind, bandwidth),
-        KernelChoice::Unknown => Choice::Unknown,
-    }
-}
-
-// Refusals 5 and 6 of byte lengths.
-fn check_part_bytes(x: usize, y: usize, n: usize, p: usize) -> Check
-    requires { ⌜ (n ≤ 512) × (p ≤ 7) ⌝ }
-    ensures { λ r. ⌜ r ≡ judge (partTests x y n p) ⌝ }
-{
-    if x != 8 * (n * p) {
-        return Check::Refused(Refusal::PredictorLength);
-    }
-    if y != 8 * n {
-        return Check::Refused(Refusal::ResponseLength);
-    }
-    Check::Pass
-}
-
-// Refusals 1 to 6 of byte lengths; p is a number of predictors.
-fn check_bytes(coords: usize, x: usize, y: usize, p: u64) -> Check
-    ensures { λ r. ⌜ r ≡ judge (byteTests coords x y p) ⌝ }
-{
-    if coords == 0 {
-        return Check::Refused(Refusal::NoCoordinates);
-    }
-    if 0 < coords % 16 {
-        return Check::Refused(Refusal::OddCoordinates);
-    }
-    let n = coords / 16;
-    if 512 < n {
-        return Check::Refused(Refusal::TooManyObservations);
-    }
-    if 7 < p {
-        return Check::Refused(Refusal::TooManyPredictors);
-    }
-    check_part_bytes(x, y, n, p as usize)
-}
 
 // How many numbers the fit may write: n rows, or none where output or summary has too few bytes.
 fn room_of(n: usize, p: usize, out: usize, summary: usize) -> usize
@@ -245,56 +141,15 @@ pub fn fit_bytes(
 ) -> u32
     ensures { λ r. ⌜ (r, (now (out .exit), now (summary .exit))) ≡ fitBytes (now (coords .entry)) (now (x .entry)) (now (y .entry)) p kernel kind bandwidth (now (out .entry)) (now (summary .entry)) ⌝ }
 {
-    let choice = options_of(kernel, kind, bandwidth);
+    let choice = request::options_of(kernel, kind, bandwidth);
     match choice {
         Choice::Unknown => Refusal::UnknownNumber.number(),
         Choice::Known(options) => {
-            let check = check_bytes(coords.len(), x.len(), y.len(), p);
+            let check = request::check_bytes(coords.len(), x.len(), y.len(), p);
             match check {
                 Check::Refused(r) => r.number(),
                 Check::Pass => fit_parts(coords, x, y, p as usize, options, out, summary),
             }
-        }
-    }
-}
-
-// The weight, or the weight 0 and refusal 9, to the first 8 bytes of out.
-fn placed_weight(weighed: Weighed, out: &mut [u8]) -> u32
-    requires { ⌜ 8 ≤ length (now out) ⌝ }
-    ensures { λ r. ⌜ (r, now (out .exit)) ≡ placedWeight weighed (now (out .entry)) ⌝ }
-{
-    match weighed {
-        Weighed::Weight(w) => {
-            wire::store(out, 0, wire::bits_of(w));
-            0
-        }
-        Weighed::BadDistance => {
-            wire::store(out, 0, 0);
-            Refusal::CoordinateNotFinite.number()
-        }
-    }
-}
-
-// The same, or refusal 13 where out has fewer than 8 bytes.
-fn weighed_bytes(weighed: Weighed, out: &mut [u8]) -> u32
-    ensures { λ r. ⌜ (r, now (out .exit)) ≡ weighedBytes weighed (now (out .entry)) ⌝ }
-{
-    if out.len() < 8 {
-        return Refusal::OutputTooShort.number();
-    }
-    placed_weight(weighed, out)
-}
-
-// The weight call: the weight of the distance of bits d at the bandwidth of bits b, to the first 8 bytes of out.
-pub fn weight_bytes(kernel: u64, d: u64, b: u64, out: &mut [u8]) -> u32
-    ensures { λ r. ⌜ (r, now (out .exit)) ≡ weightBytes kernel d b (now (out .entry)) ⌝ }
-{
-    let known = kernel_of(kernel);
-    match known {
-        KernelChoice::Unknown => Refusal::UnknownNumber.number(),
-        KernelChoice::Known(k) => {
-            let weighed = kernel::weigh_distance(k, wire::real_of(d), wire::real_of(b));
-            weighed_bytes(weighed, out)
         }
     }
 }

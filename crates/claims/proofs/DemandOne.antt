@@ -6,7 +6,7 @@ use Rattle.claims.proofs.one.Deciding.{fit-decides, begin-decides}
 use Rattle.claims.proofs.one.Turning.{turn-decides}
 use Rattle.claims.proofs.one.Called.{fit-call-decides, weight-call-decides}
 use Rattle.claims.proofs.one.Printing.{printing-decides}
-use Rattle.calls.proofs.Judged.{weigh-decides}
+use Rattle.claims.proofs.Laws.{weigh-decides}
 
 pub demand-one : DemandOne
 demand-one =

@@ -6,34 +6,8 @@ use lib.Dec.{T}
 use lib.ListN.{getD}
 use lib.Ieee.{nan}
 use lib.Ieee.Scale.{finite}
-use Rattle.real.proofs.Finite.{at-finite}
-use Rattle.real.proofs.RoundedOnce.{plus-once, minus-once, times-once, over-once, opposite-exact, less-exact, constants-exact}
-use Rattle.root.proofs.Nearest.{root-nearest, root-of-negative, root-of-nan, root-of-infinity, root-of-zero}
-use Rattle.elementary.proofs.ExpRange.{exp-in, K-le}
-use Rattle.elementary.proofs.LnRange.{ln-finite}
-use Rattle.elementary.proofs.SplitExact.{split-exact}
-use Rattle.kernel.proofs.WeightRange.{weights-in, weight-zero}
-use Rattle.kernel.proofs.Published.{weight-rounded, weight-apart, gaussian-exact, bisquare-exact, bisquare-outside, exponential-exact}
-use Rattle.counts.proofs.Roots.{ceil-root-least}
-use Rattle.neighbours.specs.declared.Own.the-variants.{At}
-use Rattle.neighbours.specs.Walk.{between}
-use Rattle.neighbours.proofs.Smallest.{nearest-is-kth, all-ascending, all-met}
-use Rattle.weights.proofs.WeightSum.{weight-sum}
-use Rattle.criterion.proofs.Published.{published-exact, aicc-rounded, aicc-refused, aicc-exhausted, aicc-floored}
-use Rattle.golden.proofs.Round.{G-is, G2-is}
-use Rattle.golden.proofs.Points.{near-golden, start-section, round-section, residues, golden-section}
-use Rattle.golden.proofs.Kiefer.{round-kiefer, searched, round-narrows, bottom-kept, bottom-stays}
-use Rattle.estimate.proofs.NormalEquations.{normal-equations}
-use Rattle.checks.specs.Judge.{NoneOf}
-use Rattle.checks.proofs.Judge.{none-append}
-use Rattle.setup.specs.declared.GwrOptions.{GwrOptions}
-use Rattle.setup.specs.Data.{Data}
-use Rattle.setup.specs.Shape.{setupOf}
-use Rattle.plan.specs.declared.Acceptance.{Acceptance}
-use Rattle.plan.specs.Checks.{inputTests, fitTests}
-use Rattle.plan.proofs.Accepted.{Accepted, input-accepted}
-use Rattle.gwr.specs.Fit.{answered, gwrFit}
-use Rattle.gwr.proofs.Literal.{fit-literal}
+use Rattle.claims.specs.Words.{At, between, NoneOf, GwrOptions, Data, setupOf, Acceptance, inputTests, fitTests, answered, gwrFit}
+use Rattle.claims.proofs.Laws.{at-finite, plus-once, minus-once, times-once, over-once, opposite-exact, less-exact, constants-exact, root-nearest, root-of-negative, root-of-nan, root-of-infinity, root-of-zero, exp-in, K-le, ln-finite, split-exact, weights-in, weight-zero, weight-rounded, weight-apart, gaussian-exact, bisquare-exact, bisquare-outside, exponential-exact, ceil-root-least, nearest-is-kth, all-ascending, all-met, weight-sum, published-exact, aicc-rounded, aicc-refused, aicc-exhausted, aicc-floored, G-is, G2-is, near-golden, start-section, round-section, residues, golden-section, round-kiefer, searched, round-narrows, bottom-kept, bottom-stays, normal-equations, none-append, Accepted, input-accepted, fit-literal}
 use Rattle.claims.specs.DemandTwo.{DemandTwo}
 use Rattle.claims.proofs.Spanning.{job-span, job-searched}
 

@@ -8,9 +8,8 @@ use native.Mathlib.Omega.{arith}
 use lib.ListN.{length, take, drop, length-append}
 use lib.Seq.{take-at, drop-at, drop-drop, length-take-le}
 use lib.Ieee.{Float}
-use Rattle.local.specs.declared.Values.{Values}
-use Rattle.local.specs.Row.{rowOf, putRow}
-use Rattle.local.proofs.Rows.{row-long}
+use Rattle.claims.specs.Words.{Values, rowOf, putRow}
+use Rattle.claims.proofs.Laws.{row-long}
 
 pub next-row : (i k : ℕ) → (i + 1) * k ≡ i * k + k
 next-row i k = rw (add-one, suc-mul)

@@ -8,25 +8,8 @@ use lib.Dec.{T}
 use lib.ListN.{length, getD}
 use lib.Ieee.{Float, nan, inf, fin, binary64, lt, fits, isNan, ofBits}
 use lib.Ieee.Fits.{cond-fits, nan-fits}
-use Rattle.real.specs.Reals.{greater, zero64}
-use Rattle.real.proofs.Fold.{kept}
-use Rattle.real.proofs.SignedOrder.{nonneg}
-use Rattle.root.specs.Root.{root}
-use Rattle.root.proofs.Nearest.{root-of-nan}
-use Rattle.kernel.specs.Weight.{squaresOf, distanceOf}
-use Rattle.kernel.proofs.DistanceRange.{squares-nonneg}
-use Rattle.root.proofs.Order.{root-fits}
-use Rattle.kernel.proofs.Reaches.{squares-fits, distance-is}
-use Rattle.golden.specs.Kiefer.{Span, SearchInside}
-use Rattle.golden.proofs.Kiefer.{search-span, searched}
-use Rattle.setup.specs.declared.GwrOptions.{GwrOptions}
-use Rattle.setup.specs.Data.{Data}
-use Rattle.setup.specs.Shape.{setupOf}
-use Rattle.plan.specs.declared.Plan.the-variants.{Sought}
-use Rattle.plan.specs.declared.Acceptance.the-variants.{Planned}
-use Rattle.plan.specs.Bounds.{fartherPair, fartherFrom, greatestDistance}
-use Rattle.plan.specs.Plan.{acceptOf}
-use Rattle.plan.proofs.Ranges.{sought-ranged}
+use Rattle.claims.specs.Words.{greater, zero64, root, squaresOf, distanceOf, Span, SearchInside, GwrOptions, Data, setupOf, Sought, Planned, fartherPair, fartherFrom, greatestDistance, acceptOf}
+use Rattle.claims.proofs.Laws.{kept, nonneg, root-of-nan, squares-nonneg, root-fits, squares-fits, distance-is, search-span, searched, sought-ranged}
 
 -- ---- the greatest pair distance is a number of binary64
 

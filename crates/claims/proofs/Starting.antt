@@ -8,34 +8,11 @@ use lib.Dec.{leb}
 use lib.ListN.{length}
 use lib.Ieee.{Float, le}
 use Rattle.checks.specs.declared.Check.the-variants as check
-use Rattle.checks.specs.Judge.{judge}
-use Rattle.setup.specs.declared.GwrBandwidth.{GwrBandwidth}
-use Rattle.setup.specs.declared.GwrBandwidth.the-variants.{Fixed, AdaptiveKnn}
-use Rattle.setup.specs.declared.GwrOptions.{GwrOptions}
-use Rattle.setup.specs.declared.Setup.{Setup}
-use Rattle.setup.specs.Bandwidth.{Usable}
-use Rattle.setup.specs.Data.{Data}
-use Rattle.setup.specs.Shape.{setupOf, Sized}
-use Rattle.golden.specs.declared.Bracket.{Bracket}
-use Rattle.plan.specs.declared.Plan.{Plan}
+use Rattle.claims.specs.Words.{judge, GwrBandwidth, Fixed, AdaptiveKnn, GwrOptions, Setup, Usable, Data, setupOf, Sized, Bracket, Plan, Acceptance, leastDistance, leastCount, greatestCount, valueTests, outputTests, lengthsFit, resolveInitialBandwidth, distancePlan, countPlan, searchPlan, planAt, planOf, acceptOf, planned, answered, gwrFit, Stage, First, Final, Job, freshJob, OfKind, TrialsAt, Sound, startJob, begunWith, beginOf, lentTests}
+use Rattle.claims.proofs.Laws.{either, Serves, accept-planned, Accepted, kind-at, Holds}
 use Rattle.plan.specs.declared.Plan.the-variants as plan
-use Rattle.plan.specs.declared.Acceptance.{Acceptance}
 use Rattle.plan.specs.declared.Acceptance.the-variants as acceptance
-use Rattle.plan.specs.Bounds.{leastDistance, leastCount, greatestCount}
-use Rattle.plan.specs.Checks.{valueTests, outputTests, lengthsFit}
-use Rattle.plan.specs.Plan.{resolveInitialBandwidth, distancePlan, countPlan, searchPlan, planAt, planOf, acceptOf}
-use Rattle.plan.proofs.Accepted.{Accepted, Serves, accept-planned}
-use Rattle.gwr.specs.Fit.{planned, answered, gwrFit}
-use Rattle.stepping.specs.declared.Stage.{Stage}
-use Rattle.stepping.specs.declared.Stage.the-variants.{First, Final}
-use Rattle.stepping.specs.declared.Job.{Job}
-use Rattle.stepping.specs.Step.{freshJob}
-use Rattle.stepping.specs.Sound.{OfKind, TrialsAt, Sound}
-use Rattle.stepping.proofs.Keeping.{kind-at, Holds}
-use Rattle.job.specs.declared.Beginning.the-variants as beginning
-use Rattle.job.specs.Begin.{startJob, begunWith, beginOf}
-use Rattle.job.specs.Turn.{lentTests}
-use Rattle.claims.proofs.Cases.{either}
+use Rattle.starting.specs.declared.Beginning.the-variants as beginning
 
 -- ---- the bandwidth is of the options' kind
 

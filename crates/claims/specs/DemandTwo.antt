@@ -10,48 +10,11 @@ use lib.IntN.{pos}
 use lib.ListN.{length}
 use lib.Ieee.{Float, nan, inf, fin, binary64, lt, le, eq, fits, isNan, toBits}
 use lib.Ieee.Scale.{finite}
-use Rattle.real.specs.Reals.{zero64, one64, leastNormal, inf64, fromCount}
-use Rattle.real.specs.Fractions.{Fraction, fraction, fractionOf, Once, OnceBy}
-use Rattle.real.specs.Arithmetic.{Arithmetic, rounded, exact}
-use Rattle.root.specs.Root.{root}
-use Rattle.root.specs.Nearest.{NearestRoot}
-use Rattle.exponent_table.specs.Reduction.{floor708, expK}
-use Rattle.elementary.specs.Exp.{expv}
-use Rattle.elementary.specs.Ln.{lnv}
-use Rattle.elementary.specs.LnSteps.{LnFinite, SplitAs}
-use Rattle.refusal.specs.declared.Refusal.the-variants.{DeviationNotFinite}
-use Rattle.kernel.specs.declared.GwrKernel.{GwrKernel}
-use Rattle.kernel.specs.declared.GwrKernel.the-variants.{Gaussian, Bisquare, Exponential}
-use Rattle.kernel.specs.Weight.{unusable, weightOf, FromZeroToOne}
-use Rattle.kernel.specs.Published.{kernelFormula, exactWeight, powerOfE, plainWeight}
-use Rattle.checks.specs.Judge.{NoneOf}
-use Rattle.setup.specs.declared.GwrBandwidth.{GwrBandwidth}
-use Rattle.setup.specs.declared.Setup.{Setup}
-use Rattle.setup.specs.Data.{Data}
-use Rattle.setup.specs.Shape.{setupOf}
-use Rattle.counts.specs.Count.{ceilRoot, LeastRoot}
-use Rattle.neighbours.specs.declared.Own.the-variants.{At}
-use Rattle.neighbours.specs.Walk.{between, nearestOf}
-use Rattle.neighbours.specs.Smallest.{allDistances, metDistances, Ascending, kthNearest}
-use Rattle.weights.specs.Weights.{weightsAt}
-use Rattle.estimate.specs.Estimate.{fitCoefficients}
-use Rattle.estimate.specs.NormalEquations.{ExactFit, Solves}
+use Rattle.claims.specs.Words.{zero64, one64, leastNormal, inf64, fromCount, Fraction, fraction, fractionOf, Once, OnceBy, Arithmetic, rounded, exact, root, NearestRoot, floor708, expK, expv, lnv, LnFinite, SplitAs, DeviationNotFinite, GwrKernel, Gaussian, Bisquare, Exponential, unusable, weightOf, FromZeroToOne, kernelFormula, exactWeight, powerOfE, plainWeight, NoneOf, GwrBandwidth, Setup, Data, setupOf, ceilRoot, LeastRoot, At, between, nearestOf, allDistances, metDistances, Ascending, kthNearest, weightsAt, fitCoefficients, ExactFit, Solves, deviation, freedom, aiccPublished, aiccFormula, pi64, exhausted, correctedAic, Bracket, invPhi, invPhi2, G, G2, startOf, goesLeft, narrowOf, Span, Inside, Framed, KieferRound, Narrowed, triedOf, playedOf, SearchInside, Valley, ScoredBy, Follows, GwrOptions, bandwidthAt, fitTests, acceptOf, trialOf, goldenSectionMin, finalOf, gwrFit}
 use Rattle.criterion.specs.declared.Criterion.the-variants as criterion
-use Rattle.criterion.specs.Published.{deviation, freedom, aiccPublished, aiccFormula}
-use Rattle.criterion.specs.Aicc.{pi64, exhausted, correctedAic}
-use Rattle.golden.specs.declared.Bracket.{Bracket}
-use Rattle.golden.specs.Golden.{invPhi, invPhi2, G, G2, startOf, goesLeft, narrowOf}
 use Rattle.golden.specs.Points as points
-use Rattle.golden.specs.Kiefer.{Span, Inside, Framed, KieferRound, Narrowed, triedOf, playedOf, SearchInside, Valley, ScoredBy, Follows}
-use Rattle.setup.specs.declared.GwrOptions.{GwrOptions}
 use Rattle.plan.specs.declared.Plan.the-variants as plan
 use Rattle.plan.specs.declared.Acceptance.the-variants as acceptance
-use Rattle.plan.specs.Bounds.{bandwidthAt}
-use Rattle.plan.specs.Checks.{fitTests}
-use Rattle.plan.specs.Plan.{acceptOf}
-use Rattle.search.specs.Trial.{trialOf}
-use Rattle.search.specs.Literal.{goldenSectionMin}
-use Rattle.gwr.specs.Fit.{finalOf, gwrFit}
 
 pub record DemandTwo : Type 1 where
   -- ---- golden section: 000's `golden_section_min` as it is written

@@ -8,26 +8,7 @@ use lib.Dec.{T, eqb, leb, ltb}
 use lib.ListN.{length, getD}
 use lib.Ieee.{Float, nan, lt, le, isNan}
 use lib.Ieee.Scale.{finite}
-use Rattle.real.specs.Reals.{zero64}
-use Rattle.real.specs.Finite.{allFinite}
-use Rattle.real.specs.Matrix.{Row, Matrix}
-use Rattle.checks.specs.Judge.{Means}
-use Rattle.setup.specs.declared.GwrBandwidth.{GwrBandwidth}
-use Rattle.setup.specs.declared.GwrOptions.{GwrOptions}
-use Rattle.setup.specs.declared.Setup.{Setup}
-use Rattle.setup.specs.Data.{Data}
-use Rattle.estimate.specs.Inverse.{inverseCell, inverseFinite}
-use Rattle.estimate.specs.Estimate.{coefficientsFinite}
-use Rattle.criterion.specs.declared.Criterion.{Criterion}
-use Rattle.plan.specs.Bounds.{greatestDistance}
-use Rattle.plan.specs.Checks.{lengthsFit, unusableGiven, nothingBetween}
-use Rattle.plan.specs.Conditions.{SomeNotFinite, UnusableGiven, NothingBetween}
-use Rattle.stepping.specs.declared.Stage.{Stage}
-use Rattle.stepping.specs.declared.Stage.the-variants.{Ended}
-use Rattle.stepping.specs.Step.{isEnded}
-use Rattle.stepping.specs.Sound.{OfKind}
-use Rattle.job.specs.Fitness.{kindsFit}
-use Rattle.calls.specs.Options.{isUnknown, optionsOf}
+use Rattle.claims.specs.Words.{zero64, allFinite, Row, Matrix, Means, GwrBandwidth, GwrOptions, Setup, Data, inverseCell, inverseFinite, coefficientsFinite, Criterion, greatestDistance, lengthsFit, unusableGiven, nothingBetween, SomeNotFinite, UnusableGiven, NothingBetween, Stage, Ended, isEnded, OfKind, kindsFit, isUnknown, optionsOf}
 
 -- P of some number below m
 abbrev pub Some : ℕ → (ℕ → Type 0) → Type 0

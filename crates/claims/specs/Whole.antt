@@ -5,20 +5,10 @@ use mathlib.Core.Bool.{cond}
 use mathlib.Core.List.{List, [], _∷_, _++_}
 use lib.Dec.{T}
 use lib.Ieee.{Float, binary64, lt, le, ofBits}
-use Rattle.real.specs.Reals.{magnitude}
-use Rattle.setup.specs.declared.GwrBandwidth.{GwrBandwidth}
-use Rattle.setup.specs.Data.{Data}
-use Rattle.setup.specs.declared.Setup.{Setup}
-use Rattle.plan.specs.declared.Plan.{Plan}
+use Rattle.claims.specs.Words.{magnitude, GwrBandwidth, Data, Setup, Plan, bandwidthAt, Trial, trialOf, Variables, loopBody, beforeLoop, goldenSectionMin, FitAnswer, Answer}
 use Rattle.plan.specs.declared.Plan.the-variants as plan
-use Rattle.plan.specs.Bounds.{bandwidthAt}
 use Rattle.sweep.specs.declared.Finish.the-variants as finish
-use Rattle.search.specs.declared.Trial.{Trial}
-use Rattle.search.specs.Trial.{trialOf}
-use Rattle.search.specs.Literal.{Variables, loopBody, beforeLoop, goldenSectionMin}
-use Rattle.gwr.specs.declared.FitAnswer.{FitAnswer}
 use Rattle.gwr.specs.declared.FitAnswer.the-variants as fit
-use Rattle.job.specs.declared.Answer.{Answer}
 use Rattle.job.specs.declared.Answer.the-variants as answer
 
 -- 01: the solve count is the number of local solves in all sweeps, failing ones included; the fit's summary has it

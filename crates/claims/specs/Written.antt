@@ -2,11 +2,8 @@
 use Prim.Native.Nat.{ℕ, _+_, _*_}
 use mathlib.Core.Bool.{cond}
 use lib.Dec.{eqb}
-use Rattle.refusal.specs.Numbers.{refusalNumber}
-use Rattle.criterion.specs.declared.Criterion.{Criterion}
+use Rattle.claims.specs.Words.{refusalNumber, Criterion, Job, byStage}
 use Rattle.criterion.specs.declared.Criterion.the-variants as criterion
-use Rattle.stepping.specs.declared.Job.{Job}
-use Rattle.stepping.specs.Step.{byStage}
 
 -- 01: a job that ends keeps the location of its last solve. With a value or 17 that was n - 1, and its row was written; with 14, 15 or 16 its row was not
 abbrev pub rowsEnded : Criterion → ℕ → ℕ → ℕ

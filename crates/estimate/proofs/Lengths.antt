@@ -1,9 +1,9 @@
 -- The coefficients are 8 numbers, found or not.
 use mathlib.Core.Path.{_≡_, refl, _∙_}
-use mathlib.Core.Bool.{Bool, true, false, cond}
 use Prim.Native.Nat.{ℕ}
 use native.Mathlib.Omega.{arith}
 use lib.ListN.{length, length-set}
+use Rattle.real.proofs.Cases.{either}
 use Rattle.real.proofs.Fold.{kept}
 use Rattle.setup.specs.declared.Setup.{Setup}
 use Rattle.setup.specs.Data.{Data}
@@ -11,11 +11,6 @@ use Rattle.real.specs.Matrix.{Row, Matrix}
 use Rattle.estimate.specs.declared.Estimated.{Estimated}
 use Rattle.estimate.specs.Inverse.{inverseFinite}
 use Rattle.estimate.specs.Estimate.{coefficientsFinite, coefficientStep, coefficientsOf, fromInverse, eliminatedOf, fitCoefficients}
-
--- what holds of both holds of either
-either : {A : Type 0} (P : A → Type 0) (b : Bool) {x y : A} → P x → P y → P (cond b x y)
-either P true p q = p
-either P false p q = q
 
 abbrev Eight : Estimated → Type 0
 Eight e = length (e .beta) ≡ 8
@@ -30,10 +25,10 @@ coefficients-eight a rhs m =
 from-eight : (a : Matrix) (rhs : Row) (m : ℕ) → Eight (fromInverse a rhs m)
 unfolding fromInverse
 from-eight a rhs m =
-    either Eight (inverseFinite a m)
-    (either Eight (coefficientsFinite (coefficientsOf a rhs m) m) (coefficients-eight a rhs m) refl)
+    either Eight (inverseFinite a m) _ _
+    (either Eight (coefficientsFinite (coefficientsOf a rhs m) m) _ _ (coefficients-eight a rhs m) refl)
     refl
 
 pub fit-eight : (u : Setup) (d : Data) (w : Row) → length (fitCoefficients u d w .0 .beta) ≡ 8
 unfolding fitCoefficients
-fit-eight u d w = either Eight (eliminatedOf u d w .0) (from-eight _ _ _) refl
+fit-eight u d w = either Eight (eliminatedOf u d w .0) _ _ (from-eight _ _ _) refl

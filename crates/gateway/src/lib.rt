@@ -1,6 +1,7 @@
 // The byte calls with C linkage, for a program in another language.
 ghost use mathlib.Core.Path.{_≡_};
-ghost use Rattle.calls.specs.Calls.{fitBytes, weightBytes};
+ghost use Rattle.calls.specs.Calls.{fitBytes};
+ghost use Rattle.weighing.specs.Weighing.{weightBytes};
 
 // Fits a job: coordinates (2n numbers), predictors (n × p, row by row) and responses (n), 8 little-endian bytes each; the numbers
 // of kernel and kind, and the bandwidth's bits or count. Rows go to out and the summary to 24 bytes. Answers the refusal's number.
@@ -26,5 +27,5 @@ pub extern "C" fn zescolumba_fit(
 pub extern "C" fn zescolumba_weight(kernel: u64, d: u64, b: u64, out: &mut [u8]) -> u32
     ensures { λ r. ⌜ (r, now (out .exit)) ≡ weightBytes kernel d b (now (out .entry)) ⌝ }
 {
-    calls::weight_bytes(kernel, d, b, out)
+    weighing::weight_bytes(kernel, d, b, out)
 }

@@ -1,6 +1,6 @@
 -- Kiefer's search as specs/Kiefer states it. Each round is one of his. Every new point lies in the part kept, rounding included. A round that begins in order narrows the bracket; no
 -- later bracket or point leaves one that holds its own points. The bottom of a valley stays in the bracket. The answer is a point tried: that it is the earliest of those with the
--- least score is `golden-best` of crates/claims/proofs/Best.
+-- least score is `golden-best` of crates/claims/proofs/three/Best.antt.
 use mathlib.Core.Path.{_≡_, refl, subst⁻¹, _∙_, subst}
 use mathlib.Core.Bool.{Bool, true, false, cond, not}
 use mathlib.Core.List.{List, [], _∷_}

@@ -21,9 +21,10 @@ use Rattle.plan.specs.declared.Plan.{Plan}
 use Rattle.plan.specs.declared.Plan.the-variants.{Settled, Sought}
 use Rattle.plan.specs.declared.Acceptance.{Acceptance}
 use Rattle.plan.specs.declared.Acceptance.the-variants.{Refused, Planned}
-use Rattle.plan.specs.Checks.{fitTests}
+use Rattle.input.specs.Checks.{fitTests}
 use Rattle.plan.specs.Plan.{planOf, acceptOf}
-use Rattle.plan.proofs.Accepted.{Accepted, accept-decides, accept-planned}
+use Rattle.plan.proofs.Planned.{accept-decides, accept-planned}
+use Rattle.input.proofs.Accepted.{Accepted}
 use Rattle.sweep.specs.declared.Course.{Course}
 use Rattle.sweep.specs.declared.Course.the-variants.{Going, Stopped}
 use Rattle.sweep.specs.declared.Swept.{Swept}

@@ -1,7 +1,7 @@
 -- The search of an accepted job is `golden_section_min` as 000 has it, and so is its fit.
 use mathlib.Core.Path.{_≡_, refl, ap, subst, subst⁻¹, _∙_}
 use mathlib.Core.List.{List}
-use mathlib.Core.Bool.{Bool, true, false, cond, not}
+use mathlib.Core.Bool.{Bool, true, false, not}
 use Prim.Native.Nat.{ℕ, _^_, _≤_, _<_}
 use native.Mathlib.Omega.{arith}
 use lib.Dec.{T, leb, le→leb, nleb→lt}
@@ -10,6 +10,7 @@ use lib.IntN.{pos}
 use lib.Ieee.{Float, binary64, le, round, ofInt, toUnsigned, inFloat}
 use lib.Ieee.Order.{round-mono}
 use lib.Ieee.Back.{unsigned-back}
+use Rattle.real.proofs.Cases.{by-test}
 use Rattle.real.proofs.SignedOrder.{natural, sgn-natural, in-fin, round-sgn, toUnsigned-mono}
 use Rattle.setup.specs.declared.GwrBandwidth.{GwrBandwidth}
 use Rattle.setup.specs.declared.GwrBandwidth.the-variants.{Fixed, AdaptiveKnn}
@@ -21,9 +22,9 @@ use Rattle.plan.specs.declared.Plan.{Plan}
 use Rattle.plan.specs.declared.Plan.the-variants.{Settled, Sought}
 use Rattle.plan.specs.declared.Acceptance.{Acceptance}
 use Rattle.plan.specs.declared.Acceptance.the-variants.{Planned}
-use Rattle.plan.specs.Bounds.{greatestDistance, leastDistance, leastCount, greatestCount, bandwidthAt}
+use Rattle.bounds.specs.Bounds.{greatestDistance, leastDistance, leastCount, greatestCount, bandwidthAt}
 use Rattle.plan.specs.Plan.{distancePlan, countPlan, searchPlan, planAt, acceptOf}
-use Rattle.plan.proofs.Accepted.{accept-planned}
+use Rattle.plan.proofs.Planned.{accept-planned}
 use Rattle.search.specs.Trial.{trialOf}
 use Rattle.search.specs.Search.{goldenOf, optimizeBandwidth}
 use Rattle.search.specs.Literal.{goldenSectionMin}
@@ -55,20 +56,16 @@ abbrev Apart : Plan → Type 0
 Apart (Settled b) = Unit {0}
 Apart (Sought lo hi) = le hi lo ≡ false
 
-either : (b : Bool) (q s : Plan) → (b ≡ true → Apart q) → (b ≡ false → Apart s) → Apart (cond b q s)
-either true q s h k = h refl
-either false q s h k = k refl
-
 plan-apart : (u : Setup) (hi : Float) → Sized u → Apart (planAt u hi)
 unfolding planAt searchPlan distancePlan countPlan
-plan-apart u hi z = either (u .options .«optimize_bandwidth») _ _ (λ _. sought (u .options .bandwidth)) (λ _. tt)
+plan-apart u hi z = by-test Apart (u .options .«optimize_bandwidth») _ _ (λ _. sought (u .options .bandwidth)) (λ _. tt)
   where
     sought : (w : GwrBandwidth) → Apart (searchPlan w hi (u .n) (u .p))
-    sought (Fixed b) = either (le hi (leastDistance hi (u .n))) _ _ (λ _. tt) (λ e. e)
+    sought (Fixed b) = by-test Apart (le hi (leastDistance hi (u .n))) _ _ (λ _. tt) (λ e. e)
     sought (AdaptiveKnn k) =
         let few = z .few in
         let narrow = z .narrow in
-        either (leb (greatestCount (u .n) (u .p)) (leastCount (u .p))) _ _ (λ _. tt)
+        by-test Apart (leb (greatestCount (u .n) (u .p)) (leastCount (u .p))) _ _ (λ _. tt)
         (λ e. whole-apart (leastCount (u .p)) (greatestCount (u .n) (u .p)) (nleb→lt (greatestCount (u .n) (u .p)) (leastCount (u .p)) (subst⁻¹ (λ (t : Bool). T (not t)) e tt)) (omega (arith, few, narrow)))
 
 module _ (d : Data) (p : ℕ) (o : GwrOptions) where

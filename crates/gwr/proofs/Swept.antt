@@ -15,7 +15,7 @@ use Rattle.local.specs.declared.Outcome.{Outcome}
 use Rattle.local.specs.declared.Outcome.the-variants as outcome
 use Rattle.local.specs.Solve.{solveLocation}
 use Rattle.local.proofs.Lengths.{beta-eight}
-use Rattle.local.proofs.Rows.{put-long}
+use Rattle.row.proofs.Rows.{put-long}
 use Rattle.sweep.specs.declared.Course.{Course}
 use Rattle.sweep.specs.declared.Course.the-variants.{Going, Stopped}
 use Rattle.sweep.specs.declared.Swept.{Swept}

@@ -8,8 +8,9 @@ use borrow.Author.Tests.{ltb-true, ltb-false}
 use lib.Dec.{ltb}
 use lib.ListN.{length, take, length-append, length-take}
 use lib.Seq.{length-take-le, take-at, take-append-le, take-append-add}
-use Rattle.listing.specs.Headers.{headerOf}
-use Rattle.listing.specs.Printed.{asked, readOf}
+use Rattle.header.specs.Headers.{headerOf}
+use Rattle.listing.specs.Printed.{readOf}
+use Rattle.header.specs.Headers.{asked}
 use Rattle.listing.proofs.Reading.{asked-none, read-short, read-long}
 
 -- a part is as long as it says

@@ -24,7 +24,7 @@ fn read_input(input: &mut [u8]) -> usize
     ensures { λ r. ⌜ (r ≤ 41000) × (readOf (take r (now (input .exit))) ≡ take r (now (input .exit))) ⌝ }
 {
     let head = read_part(&mut input[..40]);
-    let end = 40 + listing::asked_behind(&input[..head]);
+    let end = 40 + header::asked_behind(&input[..head]);
     head + read_part(&mut input[40..end])
 }
 

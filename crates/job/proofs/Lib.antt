@@ -1,4 +1,2 @@
-pub mod Fits
-pub mod Begins
 pub mod Runs
 pub mod Turning

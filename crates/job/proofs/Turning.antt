@@ -19,8 +19,8 @@ use Rattle.checks.specs.declared.Check.{Check}
 use Rattle.checks.specs.declared.Check.the-variants as check
 use Rattle.checks.specs.Judge.{judge, ruled, NoneOf, Decides}
 use Rattle.checks.proofs.Judge.{ruled-refused, ruled-pass, judge-append, first-here, judge-rest, none-head, none-append, decides}
-use Rattle.plan.specs.Checks.{outputTests, valueTests, roomTests, lengthsFit}
-use Rattle.plan.proofs.Meanings.{lengths-shaped}
+use Rattle.input.specs.Checks.{outputTests, valueTests, roomTests, lengthsFit}
+use Rattle.input.proofs.Meanings.{lengths-shaped}
 use Rattle.sweep.specs.declared.Finish.{Finish}
 use Rattle.sweep.specs.Finish.{finishOf}
 use Rattle.stepping.specs.declared.Stage.{Stage}
@@ -34,9 +34,9 @@ use Rattle.job.specs.declared.Answer.{Answer}
 use Rattle.job.specs.declared.Answer.the-variants as answer
 use Rattle.job.specs.declared.Turned.{Turned}
 use Rattle.job.specs.Run.{run}
-use Rattle.job.specs.Fitness.{isFit}
+use Rattle.fitness.specs.Fitness.{isFit}
 use Rattle.job.specs.Turn.{lentTests, turnTests, answerAt, tellOf, ranOf, runOf, refusedTurn, turnOf}
-use Rattle.job.proofs.Fits.{fit-means}
+use Rattle.fitness.proofs.Fits.{fit-means}
 use Rattle.job.proofs.Runs.{Running, running-none, running-more, running-over, running-spent}
 
 -- ---- what is lent

@@ -1,4 +1,2 @@
-pub mod Fitness
-pub mod Begin
 pub mod Run
 pub mod Turn

@@ -9,7 +9,7 @@ use Rattle.refusal.specs.declared.Refusal.the-variants.{UnfitRecord, AlreadyEnd
 use Rattle.setup.specs.declared.Setup.{Setup}
 use Rattle.setup.specs.Data.{Data}
 use Rattle.checks.specs.Judge.{judge, ruled}
-use Rattle.plan.specs.Checks.{lengthsFit, valueTests, roomTests}
+use Rattle.input.specs.Checks.{lengthsFit, valueTests, roomTests}
 use Rattle.criterion.specs.declared.Criterion.{Criterion}
 use Rattle.sweep.specs.Finish.{finishOf}
 use Rattle.stepping.specs.declared.Stage.{Stage}
@@ -19,7 +19,7 @@ use Rattle.job.specs.declared.Answer.{Answer}
 use Rattle.job.specs.declared.Answer.the-variants as answer
 use Rattle.job.specs.declared.Turned.{Turned}
 use Rattle.job.specs.Run.{run}
-use Rattle.job.specs.Fitness.{isFit}
+use Rattle.fitness.specs.Fitness.{isFit}
 
 -- ---- the refusals of a turn, where out is the output's length
 

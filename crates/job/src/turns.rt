@@ -10,8 +10,8 @@ ghost use Rattle.stepping.specs.Sound.{Sound};
 ghost use Rattle.job.specs.Turn.{lentTests, turnTests, answerAt, tellOf, runOf, turnOf};
 use super::Answer;
 use super::Turned;
-use super::fitness::is_fit;
 use checks::Check;
+use fitness::is_fit;
 use refusal::Refusal;
 use setup::Setup;
 use stepping::Job;
@@ -22,11 +22,11 @@ fn check_lent(coords: &[f64], x: &[f64], y: &[f64], u: Setup, out: usize) -> Che
     requires { ⌜ Sized u ⌝ }
     ensures { λ r. ⌜ r ≡ judge (lentTests u (dataOf (now (coords .entry)) (now (x .entry)) (now (y .entry))) out) ⌝ }
 {
-    if plan::lengths_fit(coords, x, y, u) {
-        let values = plan::check_values(coords, x, y);
+    if input::lengths_fit(coords, x, y, u) {
+        let values = input::check_values(coords, x, y);
         return match values {
             Check::Refused(r) => Check::Refused(r),
-            Check::Pass => plan::check_room(u, out),
+            Check::Pass => input::check_room(u, out),
         };
     }
     Check::Refused(Refusal::LengthsDiffer)

@@ -11,6 +11,7 @@ ghost use Rattle.kernel.specs.Weight.{squaresOf, distanceOf, weightOf, w
 mod reaching;
 
 pub use reaching::guess_distance;
+pub use reaching::settle_distance;
 
 // 000's three spatial kernels.
 pub enum GwrKernel {

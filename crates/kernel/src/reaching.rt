@@ -2,7 +2,7 @@
 ghost use mathlib.Core.Path.{_≡_};
 ghost use Rattle.root.specs.Root.{root};
 ghost use Rattle.root.specs.Guess.{guessOf};
-ghost use Rattle.kernel.specs.Weight.{squaresOf, weightOf};
+ghost use Rattle.kernel.specs.Weight.{squaresOf, distanceOf, weightOf};
 ghost use Rattle.kernel.specs.Reach.{bisquareReach, reachOf, Reach};
 use crate::GwrKernel;
 use crate::squares;
@@ -19,22 +19,16 @@ impl GwrKernel {
         }
     }
 
-    // The weight of an observation at the sum of squares s, for the reach of the kernel at bandwidth b. Where there is no reach
-    // y is a guess at the root.
-    pub fn weight_within(self, s: f64, y: f64, b: f64, reach: f64) -> f64
+    // The weight of an observation at the sum of squares s, for the reach of the kernel at bandwidth b.
+    pub fn weight_within(self, s: f64, b: f64, reach: f64) -> f64
         requires { ⌜ Reach self b reach ⌝ }
         ensures { λ r. ⌜ r ≡ weightOf self (root s) b ⌝ }
     {
         if s >= reach {
             return 0.0;
         }
-        self.weight(root::sqrt_near(s, chosen_guess(s, y, reach)), b)
+        self.weight(root::sqrt(s), b)
     }
-}
-
-// The guess y, or one made here where there is a reach: what lies beyond it needs none.
-fn chosen_guess(s: f64, y: f64, reach: f64) -> f64 {
-    if reach == reach { root::guess(s) } else { y }
 }
 
 // The square of a bandwidth in use, if its root, judged here, reaches the bandwidth; else NaN.
@@ -58,4 +52,11 @@ pub fn guess_distance(ax: f64, ay: f64, bx: f64, by: f64) -> f64
     ensures { λ r. ⌜ r ≡ guessOf (squaresOf ax ay bx by) ⌝ }
 {
     root::guess(squares(ax, ay, bx, by))
+}
+
+// The distance between two places, fast where y is `guess_distance` of them.
+pub fn settle_distance(ax: f64, ay: f64, bx: f64, by: f64, y: f64) -> f64
+    ensures { λ r. ⌜ r ≡ distanceOf ax ay bx by ⌝ }
+{
+    root::sqrt_near(squares(ax, ay, bx, by), y)
 }

@@ -23,21 +23,25 @@ use Rattle.checks.specs.declared.Check.{Check}
 use Rattle.checks.specs.declared.Check.the-variants as check
 use Rattle.checks.specs.Judge.{judge, ruled, NoneOf, Decides}
 use Rattle.checks.proofs.Judge.{ruled-append, ruled-refused, ruled-pass, judge-append, judge-rest, none-append, decides}
-use Rattle.plan.specs.Checks.{valueTests, optionTests, fitTests}
+use Rattle.input.specs.Checks.{valueTests, optionTests, fitTests}
 use Rattle.gwr.specs.declared.Fit.{Fit}
 use Rattle.gwr.specs.Fit.{gwrFit}
 use Rattle.gwr.proofs.Bounds.{Sound, fits}
-use Rattle.calls.specs.Options.{optionsOf, isUnknown}
-use Rattle.calls.specs.Calls.{byteTests, numbersOf, lentTooShort, numberTests, callTests, AfterCall, refusedCall, fittedBytes, numbersFit, fitBytes, ByteLengths}
-use Rattle.calls.proofs.Judged.{lengths-pass, call-decides}
+use Rattle.request.specs.Options.{optionsOf, isUnknown}
+use Rattle.calls.specs.Calls.{numbersOf, lentTooShort, numberTests, callTests, AfterCall, refusedCall, fittedBytes, numbersFit, fitBytes}
+use Rattle.request.specs.Lengths.{byteTests, ByteLengths}
+use Rattle.calls.proofs.Judged.{call-decides}
+use Rattle.request.proofs.Lengths.{lengths-pass}
 use Rattle.calls.proofs.Served.{call-passed}
-use Rattle.listing.specs.declared.Head.{Head}
-use Rattle.listing.specs.declared.Header.the-variants.{Whole, Refused}
-use Rattle.listing.specs.Headers.{headOf, headerTests, headerOf}
-use Rattle.listing.specs.Jobs.{placesEnd, predictorsEnd, responsesEnd, cutTests, refusedText, answerText, callOfParts, wholeText, jobText}
+use Rattle.header.specs.declared.Head.{Head}
+use Rattle.header.specs.declared.Header.the-variants.{Whole, Refused}
+use Rattle.header.specs.Headers.{headOf, headerTests, headerOf}
+use Rattle.listing.specs.Jobs.{refusedText, answerText, callOfParts, wholeText, jobText}
+use Rattle.header.specs.Cuts.{placesEnd, predictorsEnd, responsesEnd, cutTests}
 use Rattle.listing.specs.Printed.{textOf, printed, printedParts}
 use Rattle.listing.specs.Numbers.{dataIn, optionsIn, dataTests, printTests, fitIn, textOfFit}
-use Rattle.listing.proofs.Texts.{refused-text, PassedHeader, header-passed, parts-whole}
+use Rattle.listing.proofs.Texts.{refused-text}
+use Rattle.header.proofs.Heads.{PassedHeader, header-passed, parts-whole}
 use Rattle.listing.proofs.Fronts.{load-front}
 use Rattle.listing.proofs.Numbers.{answer-text}
 

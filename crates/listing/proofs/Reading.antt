@@ -12,13 +12,15 @@ use Rattle.text.specs.Listing.{WrittenText}
 use Rattle.refusal.specs.declared.Refusal.{Refusal}
 use Rattle.checks.specs.Judge.{judge, ruled}
 use Rattle.calls.specs.Calls.{AfterCall}
-use Rattle.listing.specs.declared.Head.{Head}
-use Rattle.listing.specs.declared.Header.{Header}
-use Rattle.listing.specs.declared.Header.the-variants.{Whole, Refused}
-use Rattle.listing.specs.Headers.{headerTests, headerOf, partsLen}
-use Rattle.listing.specs.Jobs.{placesEnd, predictorsEnd, responsesEnd, cutTests, answerText, callOfParts, wholeText, refusedText, jobText}
-use Rattle.listing.specs.Printed.{textOf, printed, printedParts, asked, readOf}
-use Rattle.listing.proofs.Texts.{header-short}
+use Rattle.header.specs.declared.Head.{Head}
+use Rattle.header.specs.declared.Header.{Header}
+use Rattle.header.specs.declared.Header.the-variants.{Whole, Refused}
+use Rattle.header.specs.Headers.{headerTests, headerOf, partsLen}
+use Rattle.listing.specs.Jobs.{answerText, callOfParts, wholeText, refusedText, jobText}
+use Rattle.header.specs.Cuts.{placesEnd, predictorsEnd, responsesEnd, cutTests}
+use Rattle.listing.specs.Printed.{textOf, printed, printedParts, readOf}
+use Rattle.header.specs.Headers.{asked}
+use Rattle.header.proofs.Heads.{header-short}
 use Rattle.listing.proofs.Fronts.{drop-take, part-front, load-front, short-front}
 use Rattle.listing.proofs.Judged.{parts-printed}
 

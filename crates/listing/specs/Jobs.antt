@@ -1,32 +1,17 @@
--- The parts of a job behind its header, and its text part by part. Definitions only.
+-- The text of a job behind its header, part by part. Definitions only.
 use Prim.Native.Nat.{ℕ, _+_, _*_}
-use mathlib.Core.Bool.{Bool, cond}
-use mathlib.Core.List.{List, [], _∷_}
+use mathlib.Core.Bool.{cond}
+use mathlib.Core.List.{List}
 use lib.Dec.{ltb}
 use lib.ListN.{length, take, drop, replicate}
 use Rattle.wire.specs.Wire.{loadOf}
 use Rattle.text.specs.Listing.{refusedLine, listing, rowsOf}
 use Rattle.refusal.specs.Numbers.{refusalNumber}
 use Rattle.refusal.specs.declared.Refusal.{Refusal}
-use Rattle.refusal.specs.declared.Refusal.the-variants.{OddCoordinates, PredictorLength, ResponseLength}
 use Rattle.checks.specs.Judge.{judge, ruled}
 use Rattle.calls.specs.Calls.{AfterCall, fitBytes}
-use Rattle.listing.specs.declared.Head.{Head}
-
--- where the coordinates end, the predictors, and the responses
-abbrev pub placesEnd : ℕ → ℕ
-placesEnd n = 16 * n
-
-abbrev pub predictorsEnd : ℕ → ℕ → ℕ
-predictorsEnd n p = 16 * n + 8 * (n * p)
-
-abbrev pub responsesEnd : ℕ → ℕ → ℕ
-responsesEnd n p = 16 * n + 8 * (n * p) + 8 * n
-
--- 01: the first part cut short gives 2, 5 or 6
-unfoldable pub cutTests : ℕ → ℕ → ℕ → List (Bool × Refusal)
-cutTests size n p =
-    (ltb size (placesEnd n), OddCoordinates) ∷ (ltb size (predictorsEnd n p), PredictorLength) ∷ (ltb size (responsesEnd n p), ResponseLength) ∷ []
+use Rattle.header.specs.declared.Head.{Head}
+use Rattle.header.specs.Cuts.{placesEnd, predictorsEnd, cutTests}
 
 -- 01: a refusal prints `fit` and its number only
 abbrev pub refusedText : Refusal → List ℕ

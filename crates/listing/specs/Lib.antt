@@ -1,4 +1,3 @@
-pub mod Headers
 pub mod Jobs
 pub mod Numbers
 pub mod Printed

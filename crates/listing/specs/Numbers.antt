@@ -13,16 +13,17 @@ use Rattle.refusal.specs.declared.Refusal.the-variants.{TooFewObservations}
 use Rattle.setup.specs.declared.GwrOptions.{GwrOptions}
 use Rattle.setup.specs.Data.{Data, dataOf}
 use Rattle.setup.specs.Shape.{setupOf}
-use Rattle.plan.specs.Checks.{valueTests, optionTests}
+use Rattle.input.specs.Checks.{valueTests, optionTests}
 use Rattle.sweep.specs.declared.Finish.the-variants.{Fitted, Failed}
 use Rattle.gwr.specs.declared.FitAnswer.{FitAnswer}
 use Rattle.gwr.specs.declared.FitAnswer.the-variants.{Done, Rejected}
 use Rattle.gwr.specs.declared.Fit.{Fit}
 use Rattle.gwr.specs.Fit.{gwrFit}
-use Rattle.calls.specs.Options.{optionsOf, named}
-use Rattle.listing.specs.declared.Head.{Head}
-use Rattle.listing.specs.Headers.{headOf, headerTests}
-use Rattle.listing.specs.Jobs.{placesEnd, predictorsEnd, cutTests, refusedText}
+use Rattle.request.specs.Options.{optionsOf, named}
+use Rattle.header.specs.declared.Head.{Head}
+use Rattle.header.specs.Headers.{headOf, headerTests}
+use Rattle.listing.specs.Jobs.{refusedText}
+use Rattle.header.specs.Cuts.{placesEnd, predictorsEnd, cutTests}
 
 -- 01: then coordinates, predictors, responses, 8 bytes each; `parts` is what stands behind the header
 abbrev pub dataIn : Head → List ℕ → Data

@@ -3,9 +3,9 @@ use Prim.Native.Nat.{ℕ}
 use mathlib.Core.List.{List, _++_}
 use lib.ListN.{take, drop}
 use Rattle.checks.specs.Judge.{judge, ruled}
-use Rattle.listing.specs.declared.Header.{Header}
-use Rattle.listing.specs.declared.Header.the-variants.{Whole, Refused}
-use Rattle.listing.specs.Headers.{headOf, headerOf, partsLen}
+use Rattle.header.specs.declared.Header.{Header}
+use Rattle.header.specs.declared.Header.the-variants.{Whole, Refused}
+use Rattle.header.specs.Headers.{headOf, headerOf, asked}
 use Rattle.listing.specs.Jobs.{refusedText, jobText}
 use Rattle.listing.specs.Numbers.{printTests, textOfFit}
 
@@ -23,11 +23,6 @@ unfoldable pub printedParts : List ℕ → List ℕ
 printedParts input = textOf (headerOf input) (drop 40 input)
 
 -- ---- what the program reads
-
--- how many bytes it asks for behind a header; 01: 18, n of 0 or over 512 and p over 7 are refused before reading on
-abbrev pub asked : Header → ℕ
-asked (Whole h) = partsLen (h .n) (h .p)
-asked (Refused r) = 0
 
 -- 40 bytes, then as many as these ask for; proofs/Reading proves that what is printed of them is what is printed of the whole input
 abbrev pub readOf : List ℕ → List ℕ

@@ -1,4 +1,2 @@
-pub mod Copies
 pub mod Lengths
-pub mod Rows
 pub mod Refusals

@@ -1,8 +1,8 @@
 -- Which refusals a local solve meets: 14, 15 or 16.
 use mathlib.Core.Path.{_≡_, refl}
-use mathlib.Core.Bool.{Bool, true, false, cond}
 use mathlib.Core.Logic.{_⊎_, inl, inr}
 use Prim.Native.Nat.{ℕ}
+use Rattle.real.proofs.Cases.{either}
 use Rattle.refusal.specs.declared.Refusal.{Refusal}
 use Rattle.refusal.specs.declared.Refusal.the-variants.{Singular, InverseNotFinite, CoefficientNotFinite}
 use Rattle.setup.specs.declared.GwrBandwidth.{GwrBandwidth}
@@ -12,7 +12,7 @@ use Rattle.real.specs.Matrix.{Row, Matrix}
 use Rattle.estimate.specs.declared.Estimate.{Estimate}
 use Rattle.estimate.specs.declared.Estimate.the-variants.{Fitted, Failed}
 use Rattle.estimate.specs.declared.Estimated.{Estimated}
-use Rattle.local.specs.declared.Values.{Values}
+use Rattle.evaluate.specs.declared.Values.{Values}
 use Rattle.local.specs.declared.Outcome.{Outcome}
 use Rattle.local.specs.declared.Outcome.the-variants.{Found, Refused}
 use Rattle.estimate.specs.Inverse.{inverseFinite}
@@ -34,18 +34,13 @@ EstimateAt (Failed r) = AtLocation r
 abbrev At : Estimated → Type 0
 At e = EstimateAt (e .estimate)
 
--- what holds of both holds of either
-either : {A : Type 0} (P : A → Type 0) (b : Bool) {x y : A} → P x → P y → P (cond b x y)
-either P true p q = p
-either P false p q = q
-
 inverse-at : (a : Matrix) (rhs : Row) (m : ℕ) → At (fromInverse a rhs m)
 unfolding fromInverse
-inverse-at a rhs m = either At (inverseFinite a m) (either At (coefficientsFinite (coefficientsOf a rhs m) m) tt (inr (inr refl))) (inr (inl refl))
+inverse-at a rhs m = either At (inverseFinite a m) _ _ (either At (coefficientsFinite (coefficientsOf a rhs m) m) _ _ tt (inr (inr refl))) (inr (inl refl))
 
 fit-at : (u : Setup) (d : Data) (w : Row) → At (fitCoefficients u d w .0)
 unfolding fitCoefficients
-fit-at u d w = either At (eliminatedOf u d w .0) (inverse-at _ _ _) (inl refl)
+fit-at u d w = either At (eliminatedOf u d w .0) _ _ (inverse-at _ _ _) (inl refl)
 
 outcome-at : (e : Estimate) (v : Values) → EstimateAt e → OutcomeAt (outcomeOf e v)
 unfolding outcomeOf

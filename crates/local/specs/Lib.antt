@@ -1,3 +1,1 @@
-pub mod Evaluate
 pub mod Solve
-pub mod Row

@@ -12,8 +12,8 @@ use Rattle.estimate.specs.Estimate.{fitCoefficients}
 use Rattle.local.specs.declared.Outcome.{Outcome}
 use Rattle.local.specs.declared.Outcome.the-variants.{Found, Refused}
 use Rattle.local.specs.declared.Solved.{Solved}
-use Rattle.local.specs.declared.Values.{Values}
-use Rattle.local.specs.Evaluate.{valuesAt}
+use Rattle.evaluate.specs.declared.Values.{Values}
+use Rattle.evaluate.specs.Evaluate.{valuesAt}
 
 -- the values, where the coefficients were found
 unfoldable pub outcomeOf : Estimate → Values → Outcome

@@ -1,20 +1,10 @@
-// One location solved: weights, coefficients, and what they say there; and the output row.
+// One location solved: weights, coefficients, and what they say there.
+use evaluate::Values;
 use refusal::Refusal;
 
-mod evaluate;
-mod row;
 mod solve;
 
-pub use row::put_row;
 pub use solve::solve_location;
-
-// What a local solve gives beside the coefficients.
-pub struct Values {
-    pub predicted: f64,
-    pub residual: f64,
-    pub local_r2: f64,
-    pub leverage: f64,
-}
 
 pub enum Outcome {
     Found(Values),

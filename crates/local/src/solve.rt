@@ -7,7 +7,6 @@ ghost use Rattle.setup.specs.Shape.{Shaped};
 ghost use Rattle.local.specs.Solve.{solveLocal, solveLocation};
 use crate::Outcome;
 use crate::Solved;
-use crate::evaluate;
 use estimate::Estimate;
 use setup::GwrBandwidth;
 use setup::Setup;

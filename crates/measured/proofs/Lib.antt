@@ -1,2 +1,1 @@
-pub mod Mapping
 pub mod Turning

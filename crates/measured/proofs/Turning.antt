@@ -10,8 +10,8 @@ use Rattle.setup.specs.declared.GwrBandwidth.the-variants.{Fixed}
 use Rattle.setup.specs.declared.GwrOptions.{GwrOptions}
 use Rattle.setup.specs.Data.{Data}
 use Rattle.stepping.specs.declared.Job.{Job}
-use Rattle.job.specs.declared.Begun.{Begun}
-use Rattle.job.specs.Begin.{beginOf}
+use Rattle.starting.specs.declared.Begun.{Begun}
+use Rattle.starting.specs.Begin.{beginOf}
 use Rattle.measured.specs.Turns.{kernelBy, playOf, turnsOf}
 
 module _ (d : Data) (p number a turns : ℕ) (out : List Float) where

@@ -12,7 +12,7 @@ use Rattle.setup.specs.declared.GwrBandwidth.the-variants.{Fixed}
 use Rattle.setup.specs.declared.GwrOptions.{GwrOptions}
 use Rattle.setup.specs.Data.{Data}
 use Rattle.stepping.specs.declared.Job.{Job}
-use Rattle.job.specs.Begin.{beginOf}
+use Rattle.starting.specs.Begin.{beginOf}
 use Rattle.job.specs.Turn.{turnOf}
 
 -- 0 Gaussian, 1 Bisquare, any other the Exponential

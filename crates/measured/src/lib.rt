@@ -2,7 +2,6 @@
 // a timing of one has no call's cost in it, and the turns of a job. Only rust/bench links it.
 ghost use mathlib.Core.Path.{_≡_};
 ghost use mathlib.Core.List.{map};
-ghost use Prim.Native.Nat.{_≤_};
 ghost use lib.ListN.{length};
 ghost use Rattle.root.specs.Root.{root};
 ghost use Rattle.elementary.specs.Exp.{expv};
@@ -18,42 +17,15 @@ use stepping::Job;
 pub extern "C" fn zescolumba_roots(values: &mut [f64])
     ensures { λ _. ⌜ now (values .exit) ≡ map root (now (values .entry)) ⌝ }
 {
-    for i in 0..values.len() {
-        values[i] = root::sqrt(values[i]);
-    }
+    mapped::roots(values);
 }
 
-// A guess at the root of each number. Nothing is claimed of it.
-fn guess_each(values: &[f64], into: &mut [f64; 512])
-    requires { ⌜ length (now values) ≤ 512 ⌝ }
-{
-    for i in 0..values.len() {
-        into[i] = root::guess(values[i]);
-    }
-}
-
-// Each number becomes its square root, from a guess at it.
-fn settle_each(values: &mut [f64], guesses: &[f64; 512])
-    requires { ⌜ length (now values) ≤ 512 ⌝ }
-    ensures { λ _. ⌜ now (values .exit) ≡ map root (now (values .entry)) ⌝ }
-{
-    for i in 0..values.len() {
-        values[i] = root::sqrt_near(values[i], guesses[i]);
-    }
-}
-
-// The same roots; up to 512 numbers are all guessed first and settled then, as a local solve does it.
+// The same roots, guessed first and settled then.
 #[no_mangle]
 pub extern "C" fn zescolumba_roots_in_passes(values: &mut [f64])
     ensures { λ _. ⌜ now (values .exit) ≡ map root (now (values .entry)) ⌝ }
 {
-    if values.len() <= 512 {
-        let mut guesses = [0.0; 512];
-        guess_each(&*values, &mut guesses);
-        settle_each(values, &guesses);
-    } else {
-        zescolumba_roots(values);
-    }
+    mapped::roots_in_passes(values);
 }
 
 // Each number becomes its exponential.
@@ -61,9 +33,7 @@ pub extern "C" fn zescolumba_roots_in_passes(values: &mut [f64])
 pub extern "C" fn zescolumba_exponentials(values: &mut [f64])
     ensures { λ _. ⌜ now (values .exit) ≡ map expv (now (values .entry)) ⌝ }
 {
-    for i in 0..values.len() {
-        values[i] = elementary::exp(values[i]);
-    }
+    mapped::exponentials(values);
 }
 
 fn kernel_by(number: u32) -> GwrKernel
@@ -117,7 +87,7 @@ pub extern "C" fn zescolumba_turns(
         bandwidth: GwrBandwidth::Fixed(400.0),
         optimize_bandwidth: false,
     };
-    let begun = job::begin(coords, x, y, p, options, &*out);
+    let begun = starting::begin(coords, x, y, p, options, &*out);
     let first = begun.job;
     let last = play(first, coords, x, y, out, allowance, turns);
     last.solves

@@ -1,4 +1,2 @@
-pub mod Above
-pub mod Meanings
-pub mod Accepted
+pub mod Planned
 pub mod Ranges

@@ -27,11 +27,11 @@ use Rattle.checks.proofs.Judge.{here, later, none-among, none-append}
 use Rattle.plan.specs.declared.Plan.{Plan}
 use Rattle.plan.specs.declared.Plan.the-variants.{Settled, Sought}
 use Rattle.plan.specs.declared.Acceptance.the-variants.{Planned}
-use Rattle.plan.specs.Bounds.{greatestDistance, leastDistance, usableDistance, leastCount, greatestCount}
-use Rattle.plan.specs.Checks.{inputTests, seeksDistance, nothingBetween, optionTestsAt, optionTests}
+use Rattle.bounds.specs.Bounds.{greatestDistance, leastDistance, usableDistance, leastCount, greatestCount}
+use Rattle.input.specs.Checks.{inputTests, seeksDistance, nothingBetween, optionTestsAt, optionTests}
 use Rattle.plan.specs.Plan.{distancePlan, countPlan, searchPlan, planAt, acceptOf}
-use Rattle.plan.proofs.Above.{Above, greater-above}
-use Rattle.plan.proofs.Accepted.{accept-planned}
+use Rattle.bounds.proofs.Above.{Above, greater-above}
+use Rattle.plan.proofs.Planned.{accept-planned}
 
 above-number : (x : Float) → Above x → T (not (isNan x))
 unfolding le isNan ofBits

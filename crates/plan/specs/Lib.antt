@@ -1,4 +1,1 @@
-pub mod Bounds
-pub mod Checks
-pub mod Conditions
 pub mod Plan

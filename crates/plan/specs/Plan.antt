@@ -17,8 +17,8 @@ use Rattle.plan.specs.declared.Plan.{Plan}
 use Rattle.plan.specs.declared.Plan.the-variants.{Settled, Sought}
 use Rattle.plan.specs.declared.Acceptance.{Acceptance}
 use Rattle.plan.specs.declared.Acceptance.the-variants.{Refused, Planned}
-use Rattle.plan.specs.Bounds.{greatestDistance, leastDistance, leastCount, greatestCount}
-use Rattle.plan.specs.Checks.{optionTestsAt, fitTests}
+use Rattle.bounds.specs.Bounds.{greatestDistance, leastDistance, leastCount, greatestCount}
+use Rattle.input.specs.Checks.{optionTestsAt, fitTests}
 
 -- 000's `resolve_initial_bandwidth`: the distance given, or the count, after capping and raising
 unfoldable pub resolveInitialBandwidth : GwrBandwidth → ℕ → GwrBandwidth

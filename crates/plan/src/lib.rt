@@ -1,13 +1,6 @@
-// The input checks in document 01's order, and what an accepted job is to do: a final fit at once, or a search first.
-mod bounds; // between which bandwidths a search goes
-mod checking; // the lists of tests
+// What an accepted job is to do, and which inputs are accepted: a final fit at once, or a search first.
 mod planning; // what the options ask for, and the whole
 
-pub use bounds::bandwidth_at;
-pub use checking::check_input;
-pub use checking::check_room;
-pub use checking::check_values;
-pub use checking::lengths_fit;
 pub use planning::accept;
 pub use planning::plan_options;
 use refusal::Refusal;

@@ -6,3 +6,4 @@ pub mod Toward
 pub mod RoundedOnce
 pub mod Finite
 pub mod Closed
+pub mod Cases

@@ -49,7 +49,7 @@ fn answered(
     let kind = wire::load(head, 56);
     let bandwidth = wire::load(head, 64);
     if wire::load(head, 80) == WEIGHTS {
-        return calls::weight_bytes(kernel, p, bandwidth, out);
+        return weighing::weight_bytes(kernel, p, bandwidth, out);
     }
     calls::fit_bytes(coords, x, y, p, kernel, kind, bandwidth, out, summary)
 }

@@ -14,7 +14,7 @@ use Rattle.setup.specs.declared.GwrBandwidth.{GwrBandwidth}
 use Rattle.setup.specs.declared.GwrBandwidth.the-variants.{Fixed, AdaptiveKnn}
 use Rattle.setup.specs.declared.Setup.{Setup}
 use Rattle.setup.specs.Data.{Data}
-use Rattle.plan.specs.Bounds.{pointOf, bandwidthAt}
+use Rattle.bounds.specs.Bounds.{pointOf, bandwidthAt}
 use Rattle.search.specs.declared.Trial.{Trial}
 use Rattle.search.specs.Trial.{evaluateAicc, trialOf}
 use Rattle.search.specs.Memo.{keyOf, bandwidthWith, keyAt, solvesAt, entryOf, Remembered}

@@ -8,7 +8,7 @@ use Rattle.setup.specs.declared.Setup.{Setup}
 use Rattle.setup.specs.Data.{Data}
 use Rattle.golden.specs.declared.Bracket.{Bracket}
 use Rattle.golden.specs.Golden.{firstOf, secondOf, aimOf, narrowOf, tightOf}
-use Rattle.plan.specs.Bounds.{bandwidthAt}
+use Rattle.bounds.specs.Bounds.{bandwidthAt}
 use Rattle.search.specs.declared.Trial.{Trial}
 use Rattle.search.specs.declared.Search.{Search}
 use Rattle.search.specs.declared.Optimum.{Optimum}

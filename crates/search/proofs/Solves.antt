@@ -16,8 +16,8 @@ use Rattle.criterion.specs.declared.Criterion.{Criterion}
 use Rattle.criterion.specs.Aicc.{scoreOf}
 use Rattle.golden.specs.declared.Bracket.{Bracket}
 use Rattle.golden.specs.Golden.{startOf, aimOf}
-use Rattle.plan.specs.Bounds.{bandwidthAt}
-use Rattle.plan.proofs.Accepted.{bandwidth-usable}
+use Rattle.bounds.specs.Bounds.{bandwidthAt}
+use Rattle.bounds.proofs.Usable.{bandwidth-usable}
 use Rattle.sweep.specs.declared.Swept.{Swept}
 use Rattle.sweep.specs.Sweep.{fitAllLocations, solvesOf, endingOf}
 use Rattle.sweep.proofs.Sweeps.{sweep-solves}

@@ -4,7 +4,7 @@ use Rattle.setup.specs.declared.GwrBandwidth.{GwrBandwidth}
 use Rattle.setup.specs.declared.Setup.{Setup}
 use Rattle.setup.specs.Data.{Data}
 use Rattle.criterion.specs.Aicc.{scoreOf}
-use Rattle.plan.specs.Bounds.{bandwidthAt}
+use Rattle.bounds.specs.Bounds.{bandwidthAt}
 use Rattle.sweep.specs.declared.Swept.{Swept}
 use Rattle.sweep.specs.Sweep.{sweepOf, solvesOf, endingOf}
 use Rattle.search.specs.declared.Trial.{Trial}

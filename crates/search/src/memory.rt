@@ -51,7 +51,7 @@ pub fn trial_of(
     ensures { λ r. ⌜ r ≡ trialOf u (dataOf (now (coords .entry)) (now (x .entry)) (now (y .entry))) point ⌝ }
     ensures { λ _. ⌜ Remembered u (dataOf (now (coords .entry)) (now (x .entry)) (now (y .entry))) (now (tried .exit)) (now (scores .exit)) ⌝ }
 {
-    let b = plan::bandwidth_at(u, point);
+    let b = bounds::bandwidth_at(u, point);
     let key = key_of(b);
     let j = slot_of(&*tried, key);
     let held = tried[j];

@@ -97,7 +97,7 @@ pub fn optimize_bandwidth(
     let s = golden_section_min(coords, x, y, u, lo, hi);
     let g = s.bracket;
     Optimum {
-        bandwidth: plan::bandwidth_at(u, g.best),
+        bandwidth: bounds::bandwidth_at(u, g.best),
         solves: s.solves,
     }
 }

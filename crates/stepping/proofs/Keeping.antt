@@ -1,6 +1,6 @@
 -- A step of a sound record leaves a sound one, ended or not, with the same setup, and the output as long as it was.
 use mathlib.Core.Path.{_≡_, refl, subst, subst⁻¹, _∙_}
-use mathlib.Core.Bool.{Bool, true, false, cond, _||_, true≢false}
+use mathlib.Core.Bool.{Bool, true, false, _||_, true≢false}
 use mathlib.Core.List.{List}
 use Prim.Native.Nat.{ℕ, _+_, _*_, _≤_, _<_}
 use native.Mathlib.Nat.{suc-mul}
@@ -10,6 +10,7 @@ use borrow.Author.Tests.{eqb-false}
 use lib.Dec.{eqb}
 use lib.ListN.{length}
 use lib.Ieee.{Float}
+use Rattle.real.proofs.Cases.{by-test}
 use Rattle.setup.specs.declared.GwrBandwidth.{GwrBandwidth}
 use Rattle.setup.specs.declared.GwrBandwidth.the-variants.{Fixed, AdaptiveKnn}
 use Rattle.setup.specs.declared.Setup.{Setup}
@@ -18,14 +19,14 @@ use Rattle.setup.specs.Data.{Data}
 use Rattle.setup.specs.Shape.{Sized}
 use Rattle.local.specs.declared.Outcome.{Outcome}
 use Rattle.local.specs.declared.Outcome.the-variants as outcome
-use Rattle.local.proofs.Rows.{put-long}
+use Rattle.row.proofs.Rows.{put-long}
 use Rattle.local.proofs.Lengths.{beta-eight}
 use Rattle.criterion.specs.declared.Criterion.{Criterion}
 use Rattle.criterion.specs.Aicc.{scoreOf}
 use Rattle.golden.specs.declared.Bracket.{Bracket}
 use Rattle.golden.specs.Golden.{aimOf, narrowOf, tightOf}
-use Rattle.plan.specs.Bounds.{leastCount, greatestCount, pointOf, bandwidthAt}
-use Rattle.plan.proofs.Accepted.{bandwidth-usable}
+use Rattle.bounds.specs.Bounds.{leastCount, greatestCount, pointOf, bandwidthAt}
+use Rattle.bounds.proofs.Usable.{bandwidth-usable}
 use Rattle.sweep.specs.declared.Sweep.{Sweep}
 use Rattle.sweep.specs.Sweep.{addValues, nextLocation, rowFound, rowAfter}
 use Rattle.stepping.specs.declared.Stage.{Stage}
@@ -38,10 +39,6 @@ use Rattle.stepping.proofs.Sounds.{solved-sound}
 -- sound as it is, ended or not
 abbrev pub Held : Job → Type 0
 Held j = Sound (endedSolve (j .stage)) j
-
-either : (P : Job → Type 0) (b : Bool) (x y : Job) → (b ≡ true → P x) → (b ≡ false → P y) → P (cond b x y)
-either P true x y f g = f refl
-either P false x y f g = g refl
 
 pub solve-live : (x : Stage) → isEnded x ≡ false → endedSolve x ≡ 0
 solve-live First h = refl
@@ -90,7 +87,7 @@ close-at j First c s h live = next-sound j Second _ _ s (omega (arith, h))
 close-at j Second c s h live = next-sound j Round _ _ s (omega (arith, h), omega (arith, h))
 close-at j Round c s h live =
     let g = narrowOf (j .trials .bracket) (scoreOf c) in
-    either Held (isLastRound (j .trials .made) g) _ _
+    by-test Held (isLastRound (j .trials .made) g) _ _
     (λ e. next-sound j Final g (g .best) s (omega (arith, h .1)))
     (λ e.
     let off : j .trials .made ≡ 101 → ⊥ = eqb-false _ _ (or-false (eqb (j .trials .made) 101) (tightOf g) e) in
@@ -119,7 +116,7 @@ pass-held : (j : Job) (w : Sweep) → Sound 0 j → w .location ≡ j .sweep .lo
 unfolding passJob
 pass-held j w s e live =
     let k = solved-sound w s e in
-    either Held (eqb (w .location + 1) (j .setup .n)) _ _
+    by-test Held (eqb (w .location + 1) (j .setup .n)) _ _
     (λ f. close-held (solvedJob j w) _ k live)
     (λ f. sound-held (solvedJob j (nextLocation w)) (moved-sound j w k (eqb-false _ _ f)))
 
@@ -138,7 +135,7 @@ close-setup : (j : Job) (x : Stage) (c : Criterion) → closeAt x j c .setup ≡
 close-setup j First c = refl
 close-setup j Second c = refl
 close-setup j Round c = let g = narrowOf (j .trials .bracket) (scoreOf c) in
-    either (λ (k : Job). k .setup ≡ j .setup) (isLastRound (j .trials .made) g) _ _ (λ e. refl) (λ e. refl)
+    by-test (λ (k : Job). k .setup ≡ j .setup) (isLastRound (j .trials .made) g) _ _ (λ e. refl) (λ e. refl)
 close-setup j Final c = refl
 close-setup j (Ended x) c = refl
 
@@ -146,7 +143,7 @@ outcome-setup : (j : Job) (o : Outcome) → afterOutcome j o .setup ≡ j .setup
 unfolding passJob closeJob
 outcome-setup j (outcome.Found v) =
     let w = addValues (j .sweep) v in
-    either (λ (k : Job). k .setup ≡ j .setup) (eqb (w .location + 1) (j .setup .n)) _ _ (λ e. close-setup (solvedJob j w) (j .stage) _) (λ e. refl)
+    by-test (λ (k : Job). k .setup ≡ j .setup) (eqb (w .location + 1) (j .setup .n)) _ _ (λ e. close-setup (solvedJob j w) (j .stage) _) (λ e. refl)
 outcome-setup j (outcome.Refused r) = close-setup (solvedJob j (j .sweep)) (j .stage) _
 
 pub step-setup : (d : Data) (j : Job) → stepJob d j .setup ≡ j .setup

@@ -8,7 +8,7 @@ use lib.Ieee.{Float}
 use Rattle.refusal.specs.declared.Refusal.{Refusal}
 use Rattle.setup.specs.declared.Setup.{Setup}
 use Rattle.setup.specs.Data.{Data}
-use Rattle.local.specs.declared.Values.{Values}
+use Rattle.evaluate.specs.declared.Values.{Values}
 use Rattle.local.specs.declared.Outcome.{Outcome}
 use Rattle.local.specs.declared.Outcome.the-variants as outcome
 use Rattle.local.specs.declared.Solved.{Solved}

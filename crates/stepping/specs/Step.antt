@@ -16,7 +16,7 @@ use Rattle.criterion.specs.declared.Criterion.the-variants as criterion
 use Rattle.criterion.specs.Aicc.{correctedAic, scoreOf}
 use Rattle.golden.specs.declared.Bracket.{Bracket}
 use Rattle.golden.specs.Golden.{firstOf, secondOf, aimOf, narrowOf, tightOf}
-use Rattle.plan.specs.Bounds.{bandwidthAt}
+use Rattle.bounds.specs.Bounds.{bandwidthAt}
 use Rattle.sweep.specs.declared.Sweep.{Sweep}
 use Rattle.sweep.specs.Sweep.{newSweep, addValues, nextLocation, rowAfter}
 use Rattle.stepping.specs.declared.Stage.{Stage}

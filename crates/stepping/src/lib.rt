@@ -104,7 +104,7 @@ impl Job {
         let setup = self.setup;
         let made = self.trials.made + 1;
         let trials = Trials { bracket, made };
-        let bandwidth = plan::bandwidth_at(setup, point);
+        let bandwidth = bounds::bandwidth_at(setup, point);
         let fresh = Sweep::new();
         Job {
             setup,

@@ -11,9 +11,9 @@ use Rattle.refusal.specs.declared.Refusal.{Refusal}
 use Rattle.setup.specs.declared.GwrBandwidth.{GwrBandwidth}
 use Rattle.setup.specs.declared.Setup.{Setup}
 use Rattle.setup.specs.Data.{Data}
-use Rattle.local.specs.declared.Values.{Values}
+use Rattle.evaluate.specs.declared.Values.{Values}
 use Rattle.local.specs.declared.Solved.{Solved}
-use Rattle.local.specs.Row.{putRow}
+use Rattle.row.specs.Row.{putRow}
 use Rattle.local.specs.declared.Outcome.{Outcome}
 use Rattle.local.specs.declared.Outcome.the-variants as outcome
 use Rattle.local.specs.Solve.{solveLocation}

@@ -8,12 +8,12 @@ use Rattle.real.specs.Reals.{zero64}
 use Rattle.setup.specs.declared.GwrBandwidth.{GwrBandwidth}
 use Rattle.setup.specs.declared.Setup.{Setup}
 use Rattle.setup.specs.Data.{Data}
-use Rattle.local.specs.declared.Values.{Values}
+use Rattle.evaluate.specs.declared.Values.{Values}
 use Rattle.local.specs.declared.Outcome.{Outcome}
 use Rattle.local.specs.declared.Outcome.the-variants as outcome
 use Rattle.local.specs.declared.Solved.{Solved}
 use Rattle.local.specs.Solve.{solveLocation}
-use Rattle.local.specs.Row.{putRow}
+use Rattle.row.specs.Row.{putRow}
 use Rattle.criterion.specs.declared.Criterion.{Criterion}
 use Rattle.criterion.specs.declared.Criterion.the-variants as criterion
 use Rattle.criterion.specs.Aicc.{correctedAic}

@@ -10,9 +10,9 @@ ghost use Rattle.sweep.specs.Sweep.{newSweep, addValues, nextLocation, a
 ghost use Rattle.sweep.specs.Finish.{finishOf};
 use criterion::Criterion;
 use criterion::Summary;
+use evaluate::Values;
 use local::Outcome;
 use local::Solved;
-use local::Values;
 use refusal::Refusal;
 use setup::GwrBandwidth;
 use setup::Setup;
@@ -124,7 +124,7 @@ pub fn write_row(out: &mut [f64], rows: bool, u: Setup, i: usize, solved: Solved
     let beta = solved.beta;
     if rows {
         match outcome {
-            Outcome::Found(v) => local::put_row(out, u.n, u.p + 1, i, beta, v),
+            Outcome::Found(v) => row::put_row(out, u.n, u.p + 1, i, beta, v),
             Outcome::Refused(_) => {}
         }
     }

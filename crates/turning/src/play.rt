@@ -12,8 +12,8 @@ use criterion::Summary;
 use gwr::Fit;
 use gwr::FitAnswer;
 use job::Answer;
-use job::Beginning;
 use setup::GwrOptions;
+use starting::Beginning;
 use stepping::Job;
 use sweep::Finish;
 
@@ -69,7 +69,7 @@ fn play_data(
     let mut rows = [0.5; 100];
     let fit = gwr::gwr_fit(coords, x, y, p, options, &mut rows);
     let ending = ending_of(fit);
-    let begun = job::begin(coords, x, y, p, options, &rows);
+    let begun = starting::begin(coords, x, y, p, options, &rows);
     let started = begun.answer;
     let sum = t.fitted(ending.number);
     match started {

@@ -1,1 +1,2 @@
 pub mod WeightSum
+pub mod Settles

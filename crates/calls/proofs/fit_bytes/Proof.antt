@@ -2,7 +2,8 @@
 use borrow.Author.Needs.{needs}
 use mathlib.Core.Path.{refl, sym, _∙_}
 use Rattle.calls.proofs.Answers.{triple}
-use Rattle.calls.proofs.Judged.{passed, call-unknown, call-bytes, call-parts}
+use Rattle.calls.proofs.Judged.{call-unknown, call-bytes, call-parts}
+use Rattle.request.proofs.Lengths.{passed}
 use Rattle.calls.proofs.fit_bytes.Statement.{statement}
 use Rattle.calls.proofs.fit_bytes.Tie as tie
 

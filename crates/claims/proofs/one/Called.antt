@@ -6,41 +6,14 @@ use Prim.Native.Nat.{ℕ, _+_, _*_, _/_, _≤_}
 use native.Mathlib.Omega.{arith}
 use lib.ListN.{length, take, replicate}
 use lib.Ieee.{Float}
-use Rattle.real.specs.Reals.{zero64}
-use Rattle.refusal.specs.declared.Refusal.{Refusal}
-use Rattle.refusal.specs.declared.Refusal.the-variants.{Singular, InverseNotFinite, CoefficientNotFinite}
-use Rattle.refusal.specs.Numbers.{refusalNumber}
-use Rattle.checks.specs.Judge.{NoneOf, Decides}
-use Rattle.kernel.specs.declared.GwrKernel.{GwrKernel}
-use Rattle.kernel.specs.Weight.{weightOf}
-use Rattle.setup.specs.declared.GwrBandwidth.{GwrBandwidth}
-use Rattle.setup.specs.declared.GwrOptions.{GwrOptions}
-use Rattle.setup.specs.declared.Setup.{Setup}
-use Rattle.setup.specs.Data.{Data}
-use Rattle.local.specs.declared.Outcome.{Outcome}
-use Rattle.local.specs.Solve.{solveLocation}
-use Rattle.local.proofs.Refusals.{AtLocation, OutcomeAt, location-at}
-use Rattle.criterion.specs.declared.Criterion.{Criterion}
+use Rattle.claims.specs.Words.{zero64, Refusal, Singular, InverseNotFinite, CoefficientNotFinite, refusalNumber, NoneOf, Decides, GwrKernel, weightOf, GwrBandwidth, GwrOptions, Setup, Data, Outcome, solveLocation, Criterion, deviation, correctedAic, rounded, fromCount, root, finishOf, FitAnswer, realOf, kernelOf, namedKernel, optionsOf, named, AfterCall, numbersOf, callTests, placedRows, answerBytes, fittedBytes, numbersFit, fitBytes, weightTests, refusedWeight, givenWeight, weightBytes}
+use Rattle.claims.proofs.Laws.{either, AtLocation, OutcomeAt, location-at, call-decides, weight-decides, call-passed, call-untouched, weight-known}
 use Rattle.criterion.specs.declared.Criterion.the-variants as criterion
-use Rattle.criterion.specs.Published.{deviation}
-use Rattle.criterion.specs.Aicc.{correctedAic}
-use Rattle.real.specs.Arithmetic.{rounded}
-use Rattle.real.specs.Reals.{fromCount}
-use Rattle.root.specs.Root.{root}
 use lib.Ieee.Scale.{finite}
 use Rattle.sweep.specs.declared.Finish.the-variants as finish
-use Rattle.sweep.specs.Finish.{finishOf}
-use Rattle.gwr.specs.declared.FitAnswer.{FitAnswer}
 use Rattle.gwr.specs.declared.FitAnswer.the-variants as fit
-use Rattle.wire.specs.Wire.{realOf}
-use Rattle.calls.specs.declared.KernelChoice.the-variants as choice
-use Rattle.calls.specs.Options.{kernelOf, namedKernel, optionsOf, named}
-use Rattle.calls.specs.Calls.{AfterCall, numbersOf, callTests, placedRows, answerBytes, fittedBytes, numbersFit, fitBytes, weightTests, refusedWeight, givenWeight, weightBytes}
-use Rattle.calls.proofs.Judged.{call-decides, weight-decides}
-use Rattle.calls.proofs.Served.{call-passed, call-untouched}
-use Rattle.calls.proofs.Meanings.{weight-known}
+use Rattle.request.specs.declared.KernelChoice.the-variants as choice
 use Rattle.claims.specs.DemandOne.{residualSquares, leverageTrace, FitAnswered, JobServed, BytesServed}
-use Rattle.claims.proofs.Cases.{either}
 use Rattle.claims.proofs.one.Deciding.{fit-decides}
 
 -- ---- a fit that is served is fitted, or failed with 14 to 17

@@ -5,27 +5,11 @@ use mathlib.Core.List.{List, []}
 use Prim.Native.Nat.{ℕ}
 use lib.ListN.{length, replicate, length-replicate}
 use lib.Ieee.{Float}
-use Rattle.real.specs.Reals.{zero64}
-use Rattle.refusal.specs.declared.Refusal.{Refusal}
-use Rattle.checks.specs.Judge.{FirstOf, NoneOf, Decides}
-use Rattle.setup.specs.declared.GwrOptions.{GwrOptions}
-use Rattle.setup.specs.declared.Setup.{Setup}
-use Rattle.setup.specs.Data.{Data}
-use Rattle.setup.specs.Shape.{setupOf}
-use Rattle.plan.specs.declared.Plan.{Plan}
-use Rattle.plan.specs.declared.Acceptance.{Acceptance}
+use Rattle.claims.specs.Words.{zero64, Refusal, FirstOf, NoneOf, Decides, GwrOptions, Setup, Data, setupOf, Plan, Acceptance, fitTests, planOf, acceptOf, Fit, answered, gwrFit, Begun, sizesFit, isFit, begunWith, beginOf}
+use Rattle.claims.proofs.Laws.{accept-decides, fit-means}
 use Rattle.plan.specs.declared.Acceptance.the-variants as acceptance
-use Rattle.plan.specs.Checks.{fitTests}
-use Rattle.plan.specs.Plan.{planOf, acceptOf}
-use Rattle.plan.proofs.Accepted.{accept-decides}
-use Rattle.gwr.specs.declared.Fit.{Fit}
 use Rattle.gwr.specs.declared.FitAnswer.the-variants as fit
-use Rattle.gwr.specs.Fit.{answered, gwrFit}
-use Rattle.job.specs.declared.Beginning.the-variants as beginning
-use Rattle.job.specs.declared.Begun.{Begun}
-use Rattle.job.specs.Fitness.{sizesFit, isFit}
-use Rattle.job.specs.Begin.{begunWith, beginOf}
-use Rattle.job.proofs.Fits.{fit-means}
+use Rattle.starting.specs.declared.Beginning.the-variants as beginning
 use Rattle.claims.specs.Whole.{toFinal}
 use Rattle.claims.specs.Turns.{AllLawful}
 use Rattle.claims.specs.DemandOne.{JobServed, BeginRefused, BeginServed}

@@ -4,18 +4,9 @@ use mathlib.Core.Bool.{Bool, true, false, not, _||_}
 use mathlib.Core.Logic.{_⊎_}
 use borrow.Author.Tests.{leb-true, le-leb}
 use lib.Dec.{T}
-use Rattle.checks.specs.Judge.{Means}
-use Rattle.checks.proofs.Means.{not-means, and-means, or-means, equal-means, below-means}
-use Rattle.estimate.proofs.Meanings.{inverse-not-finite-means, coefficient-not-finite-means}
-use Rattle.criterion.specs.declared.Criterion.{Criterion}
-use Rattle.plan.proofs.Meanings.{not-finite-means, unusable-distance-means, no-distance-range-means, lengths-fit-means}
-use Rattle.stepping.specs.declared.Stage.{Stage}
-use Rattle.stepping.specs.declared.Stage.the-variants.{First, Second, Round, Final, Ended}
-use Rattle.stepping.specs.Step.{isEnded}
-use Rattle.job.proofs.Fits.{kinds-means}
-use Rattle.calls.proofs.Meanings.{unknown-means, distance-means}
+use Rattle.claims.specs.Words.{Means, Criterion, Stage, First, Second, Round, Final, Ended, isEnded}
+use Rattle.claims.proofs.Laws.{never, not-means, and-means, or-means, equal-means, below-means, inverse-not-finite-means, coefficient-not-finite-means, not-finite-means, unusable-distance-means, no-distance-range-means, lengths-fit-means, kinds-means, distance-means, unknown-means}
 use Rattle.claims.specs.Meanings.{Meanings}
-use Rattle.claims.proofs.Cases.{never}
 
 itself : (b : Bool) → Means b (b ≡ true)
 itself b = (λ e. e, λ e. e)

@@ -3,14 +3,8 @@ use mathlib.Core.Path.{_≡_}
 use mathlib.Core.List.{List}
 use Prim.Native.Nat.{ℕ, _+_, _*_}
 use lib.ListN.{drop, replicate}
-use Rattle.real.specs.Reals.{zero64}
-use Rattle.refusal.specs.declared.Refusal.{Refusal}
-use Rattle.checks.specs.Judge.{Decides}
-use Rattle.listing.specs.Headers.{headOf}
-use Rattle.listing.specs.Jobs.{refusedText}
-use Rattle.listing.specs.Printed.{printed}
-use Rattle.listing.specs.Numbers.{dataIn, optionsIn, printTests}
-use Rattle.listing.proofs.Judged.{printed-decides, print-passed}
+use Rattle.claims.specs.Words.{zero64, Refusal, Decides, headOf, refusedText, printed, dataIn, optionsIn, printTests}
+use Rattle.claims.proofs.Laws.{printed-decides, print-passed}
 use Rattle.claims.specs.DemandOne.{PrintServed}
 use Rattle.claims.proofs.one.Deciding.{fit-decides}
 

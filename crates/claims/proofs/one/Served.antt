@@ -9,29 +9,10 @@ use native.Mathlib.Omega.{arith}
 use lib.ListN.{length, take, drop}
 use lib.Seq.{take-at, drop-at, take-take, take-add, length-take-le}
 use lib.Ieee.{Float}
-use Rattle.real.specs.Fold.{turns, range}
-use Rattle.real.specs.Reals.{zero64}
-use Rattle.real.proofs.SignedOrder.{here-or-on}
-use Rattle.setup.specs.declared.GwrBandwidth.{GwrBandwidth}
-use Rattle.setup.specs.declared.Setup.{Setup}
-use Rattle.setup.specs.Data.{Data}
-use Rattle.local.specs.declared.Values.{Values}
-use Rattle.local.specs.declared.Outcome.{Outcome}
+use Rattle.claims.specs.Words.{turns, range, zero64, GwrBandwidth, Setup, Data, Values, Outcome, solveLocation, rowOf, putRow, Course, Going, Stopped, Sweep, Swept, newSweep, afterSolve, rowFound, visitAt, visit, fitAllLocations, solvesAfter, endingAt, finishOf, Fit, finalOf}
+use Rattle.claims.proofs.Laws.{here-or-on, row-within, row-long, put-long, beta-eight}
 use Rattle.local.specs.declared.Outcome.the-variants as outcome
-use Rattle.local.specs.Solve.{solveLocation}
-use Rattle.local.specs.Row.{rowOf, putRow}
-use Rattle.local.proofs.Copies.{row-within}
-use Rattle.local.proofs.Rows.{row-long, put-long}
-use Rattle.local.proofs.Lengths.{beta-eight}
-use Rattle.sweep.specs.declared.Course.{Course}
-use Rattle.sweep.specs.declared.Course.the-variants.{Going, Stopped}
-use Rattle.sweep.specs.declared.Sweep.{Sweep}
-use Rattle.sweep.specs.declared.Swept.{Swept}
-use Rattle.sweep.specs.Sweep.{newSweep, afterSolve, rowFound, visitAt, visit, fitAllLocations, solvesAfter, endingAt}
-use Rattle.sweep.specs.Finish.{finishOf}
 use Rattle.gwr.specs.declared.FitAnswer.the-variants as fit
-use Rattle.gwr.specs.declared.Fit.{Fit}
-use Rattle.gwr.specs.Fit.{finalOf}
 use Rattle.claims.specs.DemandOne.{plusSquare, plusLeverage, RowOf, FitAnswered}
 use Rattle.claims.proofs.Rows.{next-row, farther, put-behind, put-front}
 

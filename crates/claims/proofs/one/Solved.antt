@@ -3,26 +3,11 @@ use mathlib.Core.Path.{_≡_, refl, subst}
 use mathlib.Core.Bool.{Bool, true, false, cond, not}
 use mathlib.Core.Logic.{inl, inr}
 use Prim.Native.Nat.{ℕ, _+_}
-use Rattle.real.specs.Matrix.{Row, Matrix}
-use Rattle.refusal.specs.declared.Refusal.{Refusal}
-use Rattle.refusal.specs.declared.Refusal.the-variants.{Singular, InverseNotFinite, CoefficientNotFinite}
-use Rattle.checks.specs.declared.Check.{Check}
+use Rattle.claims.specs.Words.{Row, Matrix, Refusal, Singular, InverseNotFinite, CoefficientNotFinite, Check, judge, Decides, GwrBandwidth, Setup, Data, localBandwidthDistance, weightsAt, equationsOf, inverseFinite, coefficientsOf, coefficientsFinite, refusedWith, fromInverse, eliminatedOf, fitCoefficients, Values, Outcome, outcomeOf, solveLocal, solveLocation}
+use Rattle.claims.proofs.Laws.{AtLocation}
 use Rattle.checks.specs.declared.Check.the-variants as check
-use Rattle.checks.specs.Judge.{judge, Decides}
-use Rattle.setup.specs.declared.GwrBandwidth.{GwrBandwidth}
-use Rattle.setup.specs.declared.Setup.{Setup}
-use Rattle.setup.specs.Data.{Data}
-use Rattle.neighbours.specs.Bandwidth.{localBandwidthDistance}
-use Rattle.weights.specs.Weights.{weightsAt}
-use Rattle.normal.specs.Equations.{equationsOf}
 use Rattle.estimate.specs.declared.Estimate.the-variants as estimate
-use Rattle.estimate.specs.Inverse.{inverseFinite}
-use Rattle.estimate.specs.Estimate.{coefficientsOf, coefficientsFinite, refusedWith, fromInverse, eliminatedOf, fitCoefficients}
-use Rattle.local.specs.declared.Values.{Values}
-use Rattle.local.specs.declared.Outcome.{Outcome}
 use Rattle.local.specs.declared.Outcome.the-variants as outcome
-use Rattle.local.specs.Solve.{outcomeOf, solveLocal, solveLocation}
-use Rattle.local.proofs.Refusals.{AtLocation}
 use Rattle.claims.specs.DemandOne.{solveTests, Found, Met}
 
 pub at-met : (r : Refusal) → AtLocation r → Met r

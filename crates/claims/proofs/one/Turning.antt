@@ -9,37 +9,14 @@ use lib.Dec.{eqb}
 use lib.ListN.{length}
 use lib.Ieee.{Float}
 use lib.Ieee.Scale.{finite}
-use Rattle.real.specs.Arithmetic.{rounded}
-use Rattle.real.specs.Reals.{fromCount}
-use Rattle.root.specs.Root.{root}
-use Rattle.refusal.specs.declared.Refusal.{Refusal}
-use Rattle.checks.specs.Judge.{NoneOf, Decides}
-use Rattle.checks.proofs.Judge.{none-head}
-use Rattle.setup.specs.declared.Setup.{Setup}
-use Rattle.setup.specs.Data.{Data}
-use Rattle.local.specs.declared.Outcome.{Outcome}
+use Rattle.claims.specs.Words.{rounded, fromCount, root, Refusal, NoneOf, Decides, Setup, Data, Outcome, Criterion, deviation, correctedAic, scoreOf, narrowOf, addValues, Stage, First, Second, Round, Final, Ended, Job, isEnded, isLastRound, closeAt, closeJob, passJob, solvedJob, afterOutcome, solveOf, stepJob, stepOf, isOver, run, turnTests, answerAt, runOf, turnOf}
+use Rattle.claims.proofs.Laws.{either, never, none-head, OutcomeAt, location-at, Holds, sound-held, holds-step, fit-means, run-few, run-keeps}
 use Rattle.local.specs.declared.Outcome.the-variants as outcome
-use Rattle.local.proofs.Refusals.{OutcomeAt, location-at}
-use Rattle.criterion.specs.declared.Criterion.{Criterion}
 use Rattle.criterion.specs.declared.Criterion.the-variants as criterion
-use Rattle.criterion.specs.Published.{deviation}
-use Rattle.criterion.specs.Aicc.{correctedAic, scoreOf}
-use Rattle.golden.specs.Golden.{narrowOf}
-use Rattle.sweep.specs.Sweep.{addValues}
-use Rattle.stepping.specs.declared.Stage.{Stage}
-use Rattle.stepping.specs.declared.Stage.the-variants.{First, Second, Round, Final, Ended}
-use Rattle.stepping.specs.declared.Job.{Job}
-use Rattle.stepping.specs.Step.{isEnded, isLastRound, closeAt, closeJob, passJob, solvedJob, afterOutcome, solveOf, stepJob, stepOf, isOver}
-use Rattle.stepping.proofs.Keeping.{Holds, sound-held, holds-step}
 use Rattle.job.specs.declared.Answer.the-variants as answer
-use Rattle.job.specs.Run.{run}
-use Rattle.job.specs.Turn.{turnTests, answerAt, runOf, turnOf}
-use Rattle.job.proofs.Fits.{fit-means}
-use Rattle.job.proofs.Runs.{run-few, run-keeps}
 use Rattle.job.proofs.Turning as turns
 use Rattle.claims.specs.Turns.{JobState}
 use Rattle.claims.specs.DemandOne.{Met, TurnAnswered, TurnServed}
-use Rattle.claims.proofs.Cases.{either, never}
 use Rattle.claims.proofs.Lending.{Untouched, step-untouched}
 use Rattle.claims.proofs.Untouched.{Kept, front-kept}
 use Rattle.claims.proofs.one.Solved.{at-met}

@@ -6,11 +6,8 @@ use mathlib.Core.Logic.{_⊎_, inl, inr}
 use Prim.Native.Nat.{ℕ, zero, suc}
 use lib.Dec.{T, T-not}
 use lib.Ieee.{Float, binary64, lt, le, isNan, ofBits}
-use Rattle.real.specs.Reals.{magnitude}
-use Rattle.real.proofs.SignedOrder.{apart, le-tr, le-total, lt→le, nlt→le}
-use Rattle.search.specs.declared.Trial.{Trial}
-use Rattle.search.specs.Literal.{Variables, loopBody, loopFor, beforeLoop}
-use Rattle.search.proofs.Literal.{lesser-is}
+use Rattle.claims.specs.Words.{magnitude, Trial, Variables, loopBody, loopFor, beforeLoop}
+use Rattle.claims.proofs.Laws.{apart, le-tr, le-total, lt→le, nlt→le, lesser-is}
 use Rattle.claims.specs.Whole.{Scored, triedIn, loopTrials, goldenTrials, All, Least, Earliest}
 
 -- ---- lists

@@ -6,30 +6,11 @@ use Prim.Native.Nat.{ℕ, _+_, _≤_}
 use native.Mathlib.Omega.{arith}
 use lib.ListN.{length}
 use lib.Ieee.{Float}
-use Rattle.setup.specs.declared.GwrBandwidth.{GwrBandwidth}
-use Rattle.setup.specs.declared.Setup.{Setup}
-use Rattle.setup.specs.Data.{Data}
-use Rattle.criterion.specs.declared.Criterion.{Criterion}
+use Rattle.claims.specs.Words.{GwrBandwidth, Setup, Data, Criterion, Bracket, noBracket, Plan, Course, Going, Stopped, Sweep, fitAllLocations, solvesOf, endingAt, endingOf, finishOf, optimizeBandwidth, Fit, finalOf, soughtOf, planned, Final, stepOf, isOver, startJob, steps, answerAt}
+use Rattle.claims.proofs.Laws.{ReachedAt, sweep-reached, stopped-at, reached-few}
 use Rattle.criterion.specs.declared.Criterion.the-variants as criterion
-use Rattle.golden.specs.declared.Bracket.{Bracket}
-use Rattle.golden.specs.Golden.{noBracket}
-use Rattle.plan.specs.declared.Plan.{Plan}
 use Rattle.plan.specs.declared.Plan.the-variants as plan
-use Rattle.sweep.specs.declared.Course.{Course}
-use Rattle.sweep.specs.declared.Course.the-variants.{Going, Stopped}
-use Rattle.sweep.specs.declared.Sweep.{Sweep}
-use Rattle.sweep.specs.Sweep.{fitAllLocations, solvesOf, endingAt, endingOf}
-use Rattle.sweep.specs.Finish.{finishOf}
-use Rattle.sweep.proofs.Reached.{ReachedAt, sweep-reached, stopped-at, reached-few}
-use Rattle.search.specs.Search.{optimizeBandwidth}
-use Rattle.gwr.specs.declared.Fit.{Fit}
 use Rattle.gwr.specs.declared.FitAnswer.the-variants as fit
-use Rattle.gwr.specs.Fit.{finalOf, soughtOf, planned}
-use Rattle.stepping.specs.declared.Stage.the-variants.{Final}
-use Rattle.stepping.specs.Step.{stepOf, isOver}
-use Rattle.job.specs.Begin.{startJob}
-use Rattle.job.specs.Run.{steps}
-use Rattle.job.specs.Turn.{answerAt}
 use Rattle.claims.specs.Written.{rowsEnded, writtenRows}
 use Rattle.claims.specs.Whole.{countOf, endedWith, trialsOf}
 use Rattle.claims.specs.Turns.{JobState}

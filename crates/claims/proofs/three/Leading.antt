@@ -5,8 +5,8 @@ use mathlib.Core.Logic.{_⊎_, inl, inr}
 use Prim.Native.Nat.{ℕ, zero, suc, _+_, _-_, _≤_, _<_, min}
 use native.Mathlib.Nat.{suc-add, zero-add}
 use native.Mathlib.Omega.{arith}
-use Rattle.real.proofs.SignedOrder.{here-or-on}
-use Rattle.job.specs.Run.{steps, run}
+use Rattle.claims.specs.Words.{steps, run}
+use Rattle.claims.proofs.Laws.{here-or-on}
 
 module _ {S : Type 0} (step : S → S) where
   pub steps-add : (a b : ℕ) (s : S) → steps step (a + b) s ≡ steps step b (steps step a s)

@@ -5,24 +5,10 @@ use Prim.Native.Nat.{ℕ, zero, suc, _+_, _*_, _≤_}
 use native.Mathlib.Nat.{mul-le-mul}
 use native.Mathlib.Omega.{arith}
 use lib.Dec.{eqb}
-use Rattle.setup.specs.declared.Setup.{Setup}
-use Rattle.setup.specs.Data.{Data}
-use Rattle.local.specs.declared.Outcome.{Outcome}
+use Rattle.claims.specs.Words.{Setup, Data, Outcome, Criterion, scoreOf, narrowOf, addValues, Stage, First, Second, Round, Final, Ended, Job, isEnded, isLastRound, closeAt, closeJob, solvedJob, passJob, afterOutcome, solveOf, stepJob, stepOf, isOver, steps}
+use Rattle.claims.proofs.Laws.{either, never, sound-few, Holds, ended-few}
 use Rattle.local.specs.declared.Outcome.the-variants as outcome
-use Rattle.criterion.specs.declared.Criterion.{Criterion}
-use Rattle.criterion.specs.Aicc.{scoreOf}
-use Rattle.golden.specs.Golden.{narrowOf}
-use Rattle.sweep.specs.Sweep.{addValues}
-use Rattle.stepping.specs.declared.Stage.{Stage}
-use Rattle.stepping.specs.declared.Stage.the-variants.{First, Second, Round, Final, Ended}
-use Rattle.stepping.specs.declared.Job.{Job}
-use Rattle.stepping.specs.Step.{isEnded, isLastRound, closeAt, closeJob, solvedJob, passJob, afterOutcome, solveOf, stepJob, stepOf, isOver}
-use Rattle.stepping.proofs.Sounds.{sound-few}
-use Rattle.stepping.proofs.Keeping.{Holds}
-use Rattle.job.specs.Run.{steps}
-use Rattle.job.proofs.Fits.{ended-few}
 use Rattle.claims.specs.Turns.{JobState, settled}
-use Rattle.claims.proofs.Cases.{either, never}
 use Rattle.claims.proofs.three.Leading.{Leads}
 
 -- ---- solves

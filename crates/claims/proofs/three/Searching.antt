@@ -9,24 +9,10 @@ use borrow.Author.Tests.{eq-eqb, ne-eqb}
 use lib.Dec.{eqb}
 use lib.ListN.{length}
 use lib.Ieee.{Float, binary64, le, ofBits}
-use Rattle.real.specs.Reals.{magnitude}
-use Rattle.real.specs.Fold.{turns, range}
-use Rattle.setup.specs.declared.Setup.{Setup}
-use Rattle.setup.specs.Data.{Data}
-use Rattle.golden.specs.declared.Bracket.{Bracket}
-use Rattle.golden.specs.Golden.{startOf, firstOf, secondOf, aimOf, narrowOf, tightOf}
-use Rattle.plan.specs.Bounds.{bandwidthAt}
-use Rattle.search.specs.declared.Search.{Search}
-use Rattle.search.specs.declared.Trial.{Trial}
-use Rattle.search.specs.Trial.{trialOf}
-use Rattle.search.specs.Search.{roundOf, openedOf, goldenOf}
-use Rattle.search.specs.Literal.{loopBody}
-use Rattle.search.proofs.Literal.{variablesOf, body-is, left, front, opened-is}
-use Rattle.stepping.specs.declared.Stage.the-variants.{First, Second, Round, Final}
-use Rattle.stepping.specs.Step.{isLastRound}
+use Rattle.claims.specs.Words.{magnitude, turns, range, Setup, Data, Bracket, startOf, firstOf, secondOf, aimOf, narrowOf, tightOf, bandwidthAt, Search, Trial, trialOf, roundOf, openedOf, goldenOf, loopBody, First, Second, Round, Final, isLastRound}
+use Rattle.claims.proofs.Laws.{either, variablesOf, body-is, left, front, opened-is}
 use Rattle.claims.specs.Whole.{Scored, triedIn, loopTrials, goldenTrials}
 use Rattle.claims.specs.Turns.{JobState}
-use Rattle.claims.proofs.Cases.{either}
 use Rattle.claims.proofs.three.Leading.{leads-then}
 use Rattle.claims.proofs.three.Sweeping.{startAt, Leading, trial-leads}
 

@@ -7,24 +7,9 @@ use native.Mathlib.Nat.{zero-add, add-zero}
 use native.Mathlib.Omega.{arith}
 use borrow.Author.Tests.{eq-eqb, ne-eqb}
 use lib.Ieee.{Float}
-use Rattle.real.specs.Fold.{turns, range}
-use Rattle.setup.specs.declared.GwrBandwidth.{GwrBandwidth}
-use Rattle.setup.specs.declared.Setup.{Setup}
-use Rattle.setup.specs.Data.{Data}
-use Rattle.local.specs.declared.Outcome.{Outcome}
+use Rattle.claims.specs.Words.{turns, range, GwrBandwidth, Setup, Data, Outcome, Solved, solveLocation, Bracket, Course, Going, Stopped, Sweep, Swept, newSweep, afterSolve, rowAfter, visit, fitAllLocations, sweepOf, solvesOf, endingOf, Stage, Job, isEnded, isFinal, closeAt, closeJob, passJob, afterOutcome, stepJob, stepOut, stepOf, isOver}
+use Rattle.claims.proofs.Laws.{pair, sweep-same, sweep-left}
 use Rattle.local.specs.declared.Outcome.the-variants as outcome
-use Rattle.local.specs.declared.Solved.{Solved}
-use Rattle.local.specs.Solve.{solveLocation}
-use Rattle.golden.specs.declared.Bracket.{Bracket}
-use Rattle.sweep.specs.declared.Course.{Course}
-use Rattle.sweep.specs.declared.Course.the-variants.{Going, Stopped}
-use Rattle.sweep.specs.declared.Sweep.{Sweep}
-use Rattle.sweep.specs.declared.Swept.{Swept}
-use Rattle.sweep.specs.Sweep.{newSweep, afterSolve, rowAfter, visit, fitAllLocations, sweepOf, solvesOf, endingOf}
-use Rattle.sweep.proofs.Sweeps.{pair, sweep-same, sweep-left}
-use Rattle.stepping.specs.declared.Stage.{Stage}
-use Rattle.stepping.specs.declared.Job.{Job}
-use Rattle.stepping.specs.Step.{isEnded, isFinal, closeAt, closeJob, passJob, afterOutcome, stepJob, stepOut, stepOf, isOver}
 use Rattle.claims.specs.Turns.{JobState}
 use Rattle.claims.proofs.three.Leading.{Leads, leads-none, leads-one, leads-then}
 

@@ -1,4 +1,4 @@
--- `estimate::coefficients_finite` meets its contract.
+-- `estimate::coefficients_finite` meets its contract: the loop's answer is the fold up to q.
 use borrow.Author.Needs.{needs}
 use Prim.Native.Nat.{_-_}
 use lib.ListN.{getD}

@@ -1,4 +1,4 @@
--- `estimate::coefficients_of` meets its contract.
+-- `estimate::coefficients_of` meets its contract: the loop's list is the fold of `coefficientStep` up to p.
 use borrow.Author.Needs.{needs}
 use Prim.Native.Nat.{_-_}
 use Rattle.real.proofs.Fold.{Range, none, more, done}

@@ -1,4 +1,4 @@
--- `estimate::fit_coefficients` meets its contract.
+-- `estimate::fit_coefficients` meets its contract: by whether elimination met a pivot that is too small.
 use borrow.Author.Needs.{needs}
 use mathlib.Core.Path.{sym}
 use Rattle.estimate.specs.Estimate.{eliminatedOf, fitCoefficients}

@@ -1,4 +1,4 @@
--- `estimate::from_inverse` meets its contract.
+-- `estimate::from_inverse` meets its contract: by whether the inverse is finite, and then the coefficients.
 use borrow.Author.Needs.{needs}
 use mathlib.Core.Path.{sym, _∙_}
 use Rattle.estimate.specs.Estimate.{fromInverse}

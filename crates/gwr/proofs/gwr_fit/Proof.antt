@@ -2,7 +2,7 @@
 use borrow.Author.Needs.{needs}
 use mathlib.Core.Path.{refl, sym, subst, _∙_}
 use native.Mathlib.Omega.{arith}
-use Rattle.plan.proofs.Accepted.{Serves, accept-planned}
+use Rattle.plan.proofs.Planned.{Serves, accept-planned}
 use Rattle.gwr.proofs.Fits.{fit-is, planned-is}
 use Rattle.gwr.proofs.gwr_fit.Statement.{statement}
 use Rattle.gwr.proofs.gwr_fit.Tie as tie

@@ -1,7 +1,8 @@
 -- `listing::print_input`: a refused header's line, or the text of the job behind it.
 use borrow.Author.Needs.{needs}
 use mathlib.Core.Path.{sym, _∙_}
-use Rattle.listing.proofs.Texts.{line-is, number-small, head-sized, head-long, refused-input, whole-input}
+use Rattle.listing.proofs.Texts.{line-is, number-small, refused-input, whole-input}
+use Rattle.header.proofs.Heads.{head-sized, head-long}
 use Rattle.listing.proofs.Judged.{parts-printed}
 use Rattle.listing.proofs.print_input.Statement.{statement}
 use Rattle.listing.proofs.print_input.Tie as tie

@@ -2,7 +2,8 @@
 use borrow.Author.Needs.{needs}
 use native.Mathlib.Omega.{arith}
 use mathlib.Core.Path.{sym, _∙_}
-use Rattle.listing.proofs.Texts.{line-is, number-small, parts-whole, job-refused, job-whole}
+use Rattle.listing.proofs.Texts.{line-is, number-small, job-refused, job-whole}
+use Rattle.header.proofs.Heads.{parts-whole}
 use Rattle.listing.proofs.print_job.Statement.{statement}
 use Rattle.listing.proofs.print_job.Tie as tie
 

@@ -1,4 +1,4 @@
--- `neighbours::local_bandwidth_distance` meets its contract.
+-- `neighbours::local_bandwidth_distance` meets its contract: by the bandwidth's kind.
 use borrow.Author.Needs.{needs}
 use Rattle.neighbours.proofs.Bandwidths.{some-asked, few-asked, by-count, by-distance}
 use Rattle.neighbours.proofs.local_bandwidth_distance.Statement.{statement}

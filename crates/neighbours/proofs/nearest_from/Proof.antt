@@ -1,4 +1,4 @@
--- `neighbours::nearest_from` meets its contract.
+-- `neighbours::nearest_from` meets its contract: the root of the sum that was selected, or the walk.
 use borrow.Author.Needs.{needs}
 use Rattle.neighbours.proofs.Selects.{root-found}
 use Rattle.neighbours.proofs.nearest_from.Statement.{statement}

@@ -1,49 +1,38 @@
--- `weights::weigh` meets its contract.
+-- `weights::weigh` meets its contract: either loop gives the weights and their sum, over the zeros handed over.
 use borrow.Author.Needs.{needs}
-use Prim.Native.Nat.{_-_}
-use Rattle.real.proofs.Fold.{Range, none, more, done}
+use mathlib.Core.Path.{_≡_, _∙_}
+use mathlib.Core.List.{List}
+use Prim.Native.Nat.{ℕ}
+use lib.ListN.{replicate}
+use lib.Ieee.{Float}
 use Rattle.real.specs.Reals.{zero64}
 use Rattle.kernel.proofs.Reaches.{reaches}
-use Rattle.setup.specs.Data.{dataOf}
-use Rattle.weights.specs.Weights.{weighStep, weightFrom, weightsFrom}
+use Rattle.setup.specs.declared.Setup.{Setup}
+use Rattle.setup.specs.Data.{Data}
+use Rattle.weights.specs.Weights.{weightFrom, weightsFrom}
+use Rattle.weights.specs.Near.{nearWeights}
 use Rattle.weights.proofs.weigh.Statement.{statement}
 use Rattle.weights.proofs.weigh.Tie as tie
 
-abbrev Inv-loop : tie.InvT-loop
-Inv-loop coords x y u east north b w₀ n reach guesses sum₀ j₀ w sum j = Range (weighStep (weightFrom u (dataOf coords x y) east north b)) (w₀, zero64) 0 (u .n) j (w, sum)
+over-zeros : (u : Setup) (d : Data) (east north b : Float) (w : List Float) (r : List Float × Float) → w ≡ replicate 512 zero64 → r ≡ nearWeights (u .options .kernel) (d .coords) (u .n) east north b w → r ≡ weightsFrom u d east north b
+unfolding weightsFrom weightFrom
+over-zeros u d east north b w r zeros e = e ∙ rw zeros
 
-abbrev μ-loop : tie.MeasureT-loop
-μ-loop coords x y u east north b w₀ n reach guesses sum₀ j₀ w sum j = u .n - j
+weigh-within-requires : tie.Need-weigh-within-requires
+weigh-within-requires c κs = search (needs, reaches)
 
-loop-holds : tie.Need-loop-holds Inv-loop μ-loop
-loop-holds c = none (search needs)
+returns : tie.Need-returns
+returns c = search (needs, over-zeros)
 
-weight-from-requires : tie.Need-weight-from-requires Inv-loop μ-loop
-weight-from-requires c κs =
-    let s = c .before .before .before .before .before .before .before .before .before in
-    (s .pre .0, (reaches (c .before .before .before .before .reach .ensures), c .loop-test .taken))
-
-loop-again : tie.Need-loop-again Inv-loop μ-loop
-unfolding weighStep
-loop-again c = more (c .before .before .loop .inv) (search needs) (rw (c .weight-from .ensures))
-
-returns : tie.Need-returns Inv-loop μ-loop
-unfolding weightsFrom
-returns c = rw (← c .before .before .before .before .before .before .before .before .before .pre .1) (done (c .before .loop .inv) (search needs))
+returns-2 : tie.Need-returns-2
+returns-2 c = search (needs, over-zeros)
 
 pub weigh-spec : {M : Type 1} → statement M
 weigh-spec =
     tie.close
-    (tie.spec Inv-loop μ-loop
+    (tie.spec
     (λ c κs. search needs)
+    weigh-within-requires
     (λ c κs. search needs)
-    loop-holds
-    (λ c. search needs)
-    (λ c. search needs)
-    weight-from-requires
-    (λ c. search needs)
-    (λ c. search needs)
-    (λ c. search needs)
-    (λ c. search needs)
-    loop-again
-    returns)
+    returns
+    returns-2)

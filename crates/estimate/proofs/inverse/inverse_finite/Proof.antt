@@ -1,4 +1,4 @@
--- `estimate::inverse::inverse_finite` meets its contract.
+-- `estimate::inverse::inverse_finite` meets its contract: the loop's answer is the fold over the rows up to p.
 use borrow.Author.Needs.{needs}
 use Prim.Native.Nat.{_-_}
 use mathlib.Core.Path.{_∙_}

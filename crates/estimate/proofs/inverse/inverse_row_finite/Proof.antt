@@ -1,4 +1,4 @@
--- `estimate::inverse::inverse_row_finite` meets its contract.
+-- `estimate::inverse::inverse_row_finite` meets its contract: the loop's answer is the fold over the cells up to q.
 use borrow.Author.Needs.{needs}
 use Prim.Native.Nat.{_-_}
 use mathlib.Core.Path.{_∙_}

@@ -1,4 +1,4 @@
--- `estimate::inverse::inverse_times` meets its contract.
+-- `estimate::inverse::inverse_times` meets its contract: the loop's sum is the fold of `inverseStep` up to q.
 use borrow.Author.Needs.{needs}
 use Prim.Native.Nat.{_-_}
 use mathlib.Core.Path.{refl}

@@ -1,4 +1,4 @@
--- `estimate::inverse::invert_matrix` meets its contract.
+-- `estimate::inverse::invert_matrix` meets its contract: the augmented matrix, eliminated.
 use borrow.Author.Needs.{needs}
 use mathlib.Core.Path.{_∙_}
 use Rattle.estimate.specs.Inverse.{invertMatrix}

@@ -12,5 +12,4 @@ weight-within-spec =
     (λ c. sym (c .before .pre .past _ (subst T (sym (c .before .good .1 .0 .1)) tt) (subst T (sym (c .if1 .taken)) tt)))
     (λ c κs. search needs)
     (λ c κs. search needs)
-    (λ c κs. search needs)
-    (λ c. c .weight .ensures ∙ rw (c .before .sqrt-near .ensures)))
+    (λ c. c .weight .ensures ∙ rw (c .before .sqrt .ensures)))

@@ -1,4 +1,4 @@
--- `local::solve::solve_local` meets its contract.
+-- `local::solve::solve_local` meets its contract: weights, then coefficients, and by whether these were found.
 use borrow.Author.Needs.{needs}
 use mathlib.Core.Path.{sym}
 use Rattle.local.specs.Solve.{outcomeOf, solveLocal}

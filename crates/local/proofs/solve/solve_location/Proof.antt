@@ -1,4 +1,4 @@
--- `local::solve::solve_location` meets its contract.
+-- `local::solve::solve_location` meets its contract: its own bandwidth, then the solve at it.
 use borrow.Author.Needs.{needs}
 use mathlib.Core.Path.{_∙_}
 use Rattle.local.specs.Solve.{solveLocation}

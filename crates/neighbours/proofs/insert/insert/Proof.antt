@@ -1,4 +1,4 @@
--- `neighbours::insert::insert` meets its contract.
+-- `neighbours::insert::insert` meets its contract: the place is found, the others are moved up, and the distance is put in.
 use native.Mathlib.Omega.{arith}
 use borrow.Author.Needs.{needs}
 use Rattle.neighbours.proofs.Inserts.{rank-low, put-in}

@@ -1,4 +1,4 @@
--- `neighbours::insert::move_up` meets its contract.
+-- `neighbours::insert::move_up` meets its contract: the places behind j are moved, those up to it are not.
 use Prim.Native.Nat.{_-_}
 use borrow.Author.Needs.{needs}
 use Rattle.neighbours.proofs.Inserts.{Moving, moving, onward, moved}

@@ -1,4 +1,4 @@
--- `neighbours::insert::rank_of` meets its contract.
+-- `neighbours::insert::rank_of` meets its contract: the places from p on hold greater distances.
 use Prim.Native.Nat.{_-_}
 use borrow.Author.Needs.{needs}
 use Rattle.neighbours.proofs.Inserts.{Placing, placing, further, stopped, at-front}

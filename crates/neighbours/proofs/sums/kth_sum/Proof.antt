@@ -1,4 +1,4 @@
--- `neighbours::sums::kth_sum` meets its contract.
+-- `neighbours::sums::kth_sum` meets its contract: a sum is given only where counting judged it the k-th smallest.
 use borrow.Author.Needs.{needs}
 use Rattle.neighbours.proofs.Selects.{kth-root, none-selected}
 use Rattle.neighbours.proofs.sums.kth_sum.Statement.{statement}

@@ -1,4 +1,4 @@
--- `neighbours::sums::leave_out` meets its contract.
+-- `neighbours::sums::leave_out` meets its contract: by whether there is an own pantry.
 use borrow.Author.Needs.{needs}
 use Rattle.neighbours.proofs.Owns.{below-at, fits-at, left-at, left-nobody}
 use Rattle.neighbours.proofs.sums.leave_out.Statement.{statement}

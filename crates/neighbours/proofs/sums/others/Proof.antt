@@ -1,4 +1,4 @@
--- `neighbours::sums::others` meets its contract.
+-- `neighbours::sums::others` meets its contract: by whether there is an own pantry.
 use borrow.Author.Needs.{needs}
 use Rattle.neighbours.proofs.Owns.{some-at, others-at, others-nobody}
 use Rattle.neighbours.proofs.sums.others.Statement.{statement}

@@ -1,4 +1,4 @@
--- `neighbours::sums::sums` meets its contract.
+-- `neighbours::sums::sums` meets its contract: the loop's list is the fold of `sumStep` up to j; the own place is left out at the end.
 use Prim.Native.Nat.{_-_}
 use borrow.Author.Needs.{needs}
 use Rattle.real.proofs.Fold.{Range, none}

@@ -1,4 +1,4 @@
--- `neighbours::walk::found_by` meets its contract.
+-- `neighbours::walk::found_by` meets its contract: the last kept where it is above 0, and else the greatest met, at least epsilon.
 use borrow.Author.Needs.{needs}
 use Rattle.neighbours.proofs.Walks.{found-last, found-none}
 use Rattle.neighbours.proofs.walk.found_by.Statement.{statement}

@@ -1,4 +1,4 @@
--- `neighbours::walk::keep` meets its contract.
+-- `neighbours::walk::keep` meets its contract: there is room; or the new distance is below the last; or all stay.
 use borrow.Author.Needs.{needs}
 use Rattle.neighbours.proofs.Inserts.{keep-more, keep-smaller, keep-all}
 use Rattle.neighbours.proofs.walk.keep.Statement.{statement}

@@ -1,4 +1,4 @@
--- `neighbours::walk::last_kept` meets its contract.
+-- `neighbours::walk::last_kept` meets its contract: nothing is kept, or the last is given.
 use borrow.Author.Needs.{needs}
 use Rattle.neighbours.proofs.Inserts.{last-held}
 use Rattle.neighbours.proofs.walk.last_kept.Statement.{statement}

@@ -1,4 +1,4 @@
--- `neighbours::walk::meet` meets its contract.
+-- `neighbours::walk::meet` meets its contract: one pantry more of the walk.
 use borrow.Author.Needs.{needs}
 use Rattle.neighbours.proofs.Walks.{met}
 use Rattle.neighbours.proofs.walk.meet.Statement.{statement}

@@ -1,4 +1,4 @@
--- `neighbours::walk::pass` meets its contract.
+-- `neighbours::walk::pass` meets its contract: the own pantry is passed by, any other met.
 use borrow.Author.Needs.{needs}
 use Rattle.neighbours.specs.Walk.{distanceFrom}
 use Rattle.neighbours.proofs.Walks.{stays, goes}

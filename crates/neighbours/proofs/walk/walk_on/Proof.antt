@@ -1,4 +1,4 @@
--- `neighbours::walk::walk_on` meets its contract.
+-- `neighbours::walk::walk_on` meets its contract: the loop's state is the walk up to j.
 use Prim.Native.Nat.{_-_}
 use borrow.Author.Needs.{needs}
 use Rattle.neighbours.specs.Walk.{distanceFrom, walkIn}

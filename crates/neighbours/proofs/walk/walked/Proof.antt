@@ -1,4 +1,4 @@
--- `neighbours::walk::walked` meets its contract.
+-- `neighbours::walk::walked` meets its contract: the walk over all pantries, and what it gives.
 use borrow.Author.Needs.{needs}
 use Rattle.neighbours.specs.Walk.{nearestFrom}
 use Rattle.neighbours.proofs.Walks.{walked-within, walked-gives}

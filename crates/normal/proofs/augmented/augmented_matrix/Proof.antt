@@ -1,4 +1,4 @@
--- `normal::augmented::augmented_matrix` meets its contract.
+-- `normal::augmented::augmented_matrix` meets its contract: the loop's matrix is the fold of `augmentStep` up to p.
 use borrow.Author.Needs.{needs}
 use Prim.Native.Nat.{_-_}
 use Rattle.real.proofs.Fold.{Range, none, more, done}

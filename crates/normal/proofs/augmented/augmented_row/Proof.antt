@@ -1,4 +1,4 @@
--- `normal::augmented::augmented_row` meets its contract.
+-- `normal::augmented::augmented_row` meets its contract: the loop's row is the fold of `mirrorStep` up to q; then the identity's cell.
 use borrow.Author.Needs.{needs}
 use Prim.Native.Nat.{_-_}
 use Rattle.real.proofs.Fold.{Range, none, more, done}

@@ -1,4 +1,4 @@
--- `normal::augmented::mirrored_cell` meets its contract.
+-- `normal::augmented::mirrored_cell` meets its contract: by the side of the diagonal.
 use borrow.Author.Needs.{needs}
 use mathlib.Core.Path.{sym}
 use borrow.Author.Tests.{lt-ltb, le-ltb}

@@ -1,4 +1,4 @@
--- `normal::design::design_row` meets its contract.
+-- `normal::design::design_row` meets its contract: the loop's row is the fold of `designStep` up to q; a cell of observation j stands within the predictors.
 use borrow.Author.Needs.{needs}
 use Prim.Native.Nat.{_+_, _*_, _-_, _<_}
 use mathlib.Core.Path.{refl}

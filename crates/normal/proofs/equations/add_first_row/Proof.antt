@@ -1,4 +1,4 @@
--- `normal::equations::add_first_row` meets its contract.
+-- `normal::equations::add_first_row` meets its contract: the intercept's cell apart, then the fold of the others.
 use borrow.Author.Needs.{needs}
 use Rattle.normal.proofs.DesignCells.{row-front}
 use Rattle.normal.proofs.equations.add_first_row.Statement.{statement}

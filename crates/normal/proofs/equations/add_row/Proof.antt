@@ -1,4 +1,4 @@
--- `normal::equations::add_row` meets its contract.
+-- `normal::equations::add_row` meets its contract: the loop's row is the fold of `cellStep` from the diagonal on.
 use borrow.Author.Needs.{needs}
 use Prim.Native.Nat.{_+_, _*_, _-_, _<_}
 use native.Mathlib.Omega.{arith}

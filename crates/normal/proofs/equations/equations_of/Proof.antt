@@ -1,4 +1,4 @@
--- `normal::equations::equations_of` meets its contract.
+-- `normal::equations::equations_of` meets its contract: the loop's sums are the fold of `normalStep` up to j; an observation that weighs nothing is passed by.
 use borrow.Author.Needs.{needs}
 use Prim.Native.Nat.{_-_}
 use mathlib.Core.Path.{_∙_}

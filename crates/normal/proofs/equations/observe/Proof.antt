@@ -1,4 +1,4 @@
--- `normal::equations::observe` meets its contract.
+-- `normal::equations::observe` meets its contract: the first row apart, then the loop is the fold of `observeStep` from row 1 on.
 use borrow.Author.Needs.{needs}
 use Prim.Native.Nat.{_+_, _*_, _-_, _<_}
 use mathlib.Core.Path.{sym, _∙_}

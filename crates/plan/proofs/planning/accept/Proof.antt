@@ -3,7 +3,8 @@ use borrow.Author.Needs.{needs}
 use mathlib.Core.Path.{sym, _∙_}
 use Rattle.setup.specs.Data.{dataOf}
 use Rattle.checks.proofs.Tests.{read}
-use Rattle.plan.proofs.Accepted.{input-accepted, accept-refused, accept-passed}
+use Rattle.plan.proofs.Planned.{accept-refused, accept-passed}
+use Rattle.input.proofs.Accepted.{input-accepted}
 use Rattle.plan.proofs.planning.accept.Statement.{statement}
 use Rattle.plan.proofs.planning.accept.Tie as tie
 

@@ -1,7 +1,7 @@
 -- `plan::plan_options` meets its contract: where no distance is sought, none is looked at.
 use borrow.Author.Needs.{needs}
 use mathlib.Core.Path.{sym, _∙_}
-use Rattle.plan.proofs.Accepted.{options-blind}
+use Rattle.plan.proofs.Planned.{options-blind}
 use Rattle.plan.proofs.planning.plan_options.Statement.{statement}
 use Rattle.plan.proofs.planning.plan_options.Tie as tie
 

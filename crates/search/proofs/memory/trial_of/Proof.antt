@@ -3,7 +3,7 @@ use borrow.Author.Needs.{needs}
 use mathlib.Core.Path.{sym, subst, subst⁻¹}
 use lib.Dec.{T}
 use Rattle.setup.specs.Bandwidth.{Usable}
-use Rattle.plan.proofs.Accepted.{bandwidth-usable}
+use Rattle.bounds.proofs.Usable.{bandwidth-usable}
 use Rattle.search.proofs.Memos.{point-is, recalled, kept}
 use Rattle.search.proofs.memory.trial_of.Statement.{statement}
 use Rattle.search.proofs.memory.trial_of.Tie as tie

@@ -1,0 +1,23 @@
+-- Inside `weights`: what its loops read of the setup and the data, and distances settled before the weights. Nothing above rests on it. Definitions only.
+use Prim.Native.Nat.{ℕ, _+_, _*_, _<_}
+use mathlib.Core.Path.{_≡_}
+use mathlib.Core.List.{List}
+use lib.ListN.{getD}
+use lib.Ieee.{Float, nan}
+use Rattle.real.specs.Fold.{range}
+use Rattle.real.specs.Reals.{zero64}
+use Rattle.kernel.specs.declared.GwrKernel.{GwrKernel}
+use Rattle.kernel.specs.Weight.{weightOf, distanceOf}
+use Rattle.weights.specs.Weights.{weighStep}
+
+-- the distance of observation j from the place (east, north)
+abbrev pub nearDistance : List Float → Float → Float → ℕ → Float
+nearDistance coords east north j = distanceOf east north (getD coords (2 * j) nan) (getD coords (2 * j + 1) nan)
+
+-- the weights of n observations, from w on, and their sum
+abbrev pub nearWeights : GwrKernel → List Float → ℕ → Float → Float → Float → List Float → List Float × Float
+nearWeights k coords n east north b w = range (weighStep (λ j. weightOf k (nearDistance coords east north j) b)) 0 n (w, zero64)
+
+-- y holds the distances of the first n observations
+pub record Settled (coords : List Float) (n : ℕ) (east north : Float) (y : List Float) : Type 0 where
+  pub at : (j : ℕ) → j < n → getD y j nan ≡ nearDistance coords east north j
