@@ -227,7 +227,7 @@ module _ (v : Float) (low : T (le floor708 v)) (high : T (le v nought)) where
       (mul-nmono binary64 s threeHalves (twoToMinus (suc k)) half (s-nat (suc k) e) tt p tt (s-in (expRest v (suc k)) (r-fin (suc k) e) (r-mag (suc k) e) .1) p1) three-quarters
 
 -- ---- the answer
-near-is : (v : Float) → expNear v ≡ mul binary64 (expSteps 13 (expRest v (expK v)) one) (twoToMinus (expK v))
+pub near-is : (v : Float) → expNear v ≡ mul binary64 (expSteps 13 (expRest v (expK v)) one) (twoToMinus (expK v))
 unfolding expNear ofBits
 near-is v = refl
 

@@ -1,21 +1,15 @@
 -- A computed test for each K from 0 to 1021: at two numbers that enclose every v with this K, K moves off and |r| stays under 0.35. Assumes nothing.
-use mathlib.Core.Path.{subst}
-use mathlib.Core.Logic.{inl, inr}
-use Prim.Native.Nat.{ℕ, zero, suc, _+_, _-_, _*_, _≤_, _<_}
-use native.Mathlib.Nat.{lt-irrefl, eq-or-lt-of-le}
-use native.Mathlib.Omega.{arith}
+use Prim.Native.Nat.{ℕ, zero, suc, _+_, _-_, _*_}
 use mathlib.Core.List.{List, [], _∷_}
 use mathlib.Core.Bool.{Bool, true, false, _&&_}
 use lib.IntN.{pos}
-use lib.Dec.{T, ltb}
+use lib.Dec.{ltb}
 use lib.Ieee.{Float, binary64, add, sub, mul, neg, le, ofInt, ofBits, round}
-use lib.Ieee.Fits.{and-l, and-r}
 use lib.Ieee.Scale.{finite}
 use Rattle.real.proofs.SignedOrder.{natural}
 use Rattle.real.specs.Reals.{half64}
 use Rattle.real.proofs.Closed.{one, half, nought}
 use Rattle.exponent_table.specs.Reduction.{HI, LO, INV, expK, expRest, twoToMinus}
-use Rattle.exponent_table.proofs.Tests.{allb, All, all→}
 
 -- 0.5 - v·INV
 unfoldable pub uncut : Float → Float
@@ -50,16 +44,3 @@ tests k =
     ∷ finite (vl k) ∷ finite (vh k) ∷ finite (kHI k) ∷ finite (kLO k) ∷ finite (add binary64 (vl k) (kHI k)) ∷ finite (add binary64 (vh k) (kHI k))
     ∷ finite (mul binary64 (vl k) INV) ∷ finite (mul binary64 (vh k) INV) ∷ natural (uncut (vl k)) ∷ natural (uncut (vh k))
     ∷ natural (twoToMinus k) ∷ le (twoToMinus k) one ∷ []
-
--- the tests at a, a + 1, .., a + n - 1
-abbrev pub sweep : ℕ → ℕ → Bool
-sweep zero a = true
-sweep (suc n) a = allb (tests a) && sweep n (suc a)
-
-pub sweep-sound : (n a k : ℕ) → T (sweep n a) → a ≤ k → k < a + n → All (tests k)
-sweep-sound zero a k t l u = absurd (lt-irrefl 0 (omega arith))
-sweep-sound (suc n) a k t l u =
-    elim (eq-or-lt-of-le l) [
-      | inl e ↦ subst (λ (i : ℕ). All (tests i)) e (all→ (tests a) (and-l (allb (tests a)) (sweep n (suc a)) t))
-      | inr g ↦ sweep-sound n (suc a) k (and-r (allb (tests a)) (sweep n (suc a)) t) g (omega arith)
-    ]

@@ -88,7 +88,7 @@ fits-parts f s (suc m) e h =
     )
 
 -- 2 ^ e in units of the smallest value
-in-units : (l : ℕ) (e : ℤ) → down e ≤ 2 ^ l → (j : ℕ) × (up e * 2 ^ l ≡ 2 ^ j * down e)
+pub in-units : (l : ℕ) (e : ℤ) → down e ≤ 2 ^ l → (j : ℕ) × (up e * 2 ^ l ≡ 2 ^ j * down e)
 in-units l (pos k) h = (k + l, sym (pow-add 2 k l) ∙ sym (mul-one (2 ^ (k + l))))
 in-units l (negsuc k) h = (l - suc k, one-mul (2 ^ l) ∙ ap (λ (z : ℕ). 2 ^ z) (split-at l (suc k) within) ∙ pow-add 2 (l - suc k) (suc k))
   where
