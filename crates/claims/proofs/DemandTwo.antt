@@ -7,7 +7,7 @@ use lib.ListN.{getD}
 use lib.Ieee.{nan}
 use lib.Ieee.Scale.{finite}
 use Rattle.claims.specs.Words.{At, between, NoneOf, GwrOptions, Data, setupOf, Acceptance, inputTests, fitTests, answered, gwrFit}
-use Rattle.claims.proofs.Laws.{at-finite, plus-once, minus-once, times-once, over-once, opposite-exact, less-exact, constants-exact, root-nearest, root-of-negative, root-of-nan, root-of-infinity, root-of-zero, exp-in, K-le, ln-finite, split-exact, weights-in, weight-zero, weight-rounded, weight-apart, gaussian-exact, bisquare-exact, bisquare-outside, exponential-exact, ceil-root-least, nearest-is-kth, all-ascending, all-met, weight-sum, published-exact, aicc-rounded, aicc-refused, aicc-exhausted, aicc-floored, G-is, G2-is, near-golden, start-section, round-section, residues, golden-section, round-kiefer, searched, round-narrows, bottom-kept, bottom-stays, normal-equations, none-append, Accepted, input-accepted, fit-literal}
+use Rattle.claims.proofs.Laws.{at-finite, plus-once, minus-once, times-once, over-once, opposite-exact, less-exact, constants-exact, root-nearest, root-of-negative, root-of-nan, root-of-infinity, root-of-zero, exp-in, K-le, near-power-series, ln-finite, split-exact, weights-in, weight-zero, weight-rounded, weight-apart, gaussian-exact, bisquare-exact, bisquare-outside, exponential-exact, ceil-root-least, nearest-is-kth, all-ascending, all-met, weight-sum, published-exact, aicc-rounded, aicc-refused, aicc-exhausted, aicc-floored, G-is, G2-is, near-golden, start-section, round-section, residues, golden-section, round-kiefer, searched, round-narrows, bottom-kept, bottom-stays, normal-equations, none-append, Accepted, input-accepted, fit-literal}
 use Rattle.claims.specs.DemandTwo.{DemandTwo}
 use Rattle.claims.proofs.Spanning.{job-span, job-searched}
 
@@ -52,6 +52,7 @@ demand-two =
       root-own = (root-of-nan, root-of-infinity, root-of-zero);
       exp-range = exp-in;
       exp-halvings = K-le;
+      exp-near = near-power-series;
       ln-finite = ln-finite;
       ln-split = split-exact;
       kernel-formula = weight-rounded;

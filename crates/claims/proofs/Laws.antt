@@ -7,6 +7,7 @@ pub use Rattle.real.proofs.SignedOrder.{nonneg, here-or-on, apart, le-tr, le-to
 pub use Rattle.root.proofs.Nearest.{root-nearest, root-of-negative, root-of-nan, root-of-infinity, root-of-zero}
 pub use Rattle.root.proofs.Order.{root-fits}
 pub use Rattle.elementary.proofs.ExpRange.{exp-in, K-le}
+pub use Rattle.accuracy.proofs.Accurate.{near-power-series}
 pub use Rattle.elementary.proofs.LnRange.{ln-finite}
 pub use Rattle.elementary.proofs.SplitExact.{split-exact}
 pub use Rattle.checks.proofs.Judge.{none-append, none-head, ruled-pass}

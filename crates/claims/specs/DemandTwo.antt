@@ -11,6 +11,7 @@ use lib.ListN.{length}
 use lib.Ieee.{Float, nan, inf, fin, binary64, lt, le, eq, fits, isNan, toBits}
 use lib.Ieee.Scale.{finite}
 use Rattle.claims.specs.Words.{zero64, one64, leastNormal, inf64, fromCount, Fraction, fraction, fractionOf, Once, OnceBy, Arithmetic, rounded, exact, root, NearestRoot, floor708, expK, expv, lnv, LnFinite, SplitAs, DeviationNotFinite, GwrKernel, Gaussian, Bisquare, Exponential, unusable, weightOf, FromZeroToOne, kernelFormula, exactWeight, powerOfE, plainWeight, NoneOf, GwrBandwidth, Setup, Data, setupOf, ceilRoot, LeastRoot, At, between, nearestOf, allDistances, metDistances, Ascending, kthNearest, weightsAt, fitCoefficients, ExactFit, Solves, deviation, freedom, aiccPublished, aiccFormula, pi64, exhausted, correctedAic, Bracket, invPhi, invPhi2, G, G2, startOf, goesLeft, narrowOf, Span, Inside, Framed, KieferRound, Narrowed, triedOf, playedOf, SearchInside, Valley, ScoredBy, Follows, GwrOptions, bandwidthAt, fitTests, acceptOf, trialOf, goldenSectionMin, finalOf, gwrFit}
+use Rattle.claims.specs.Words.{NearPowerSeries}
 use Rattle.criterion.specs.declared.Criterion.the-variants as criterion
 use Rattle.golden.specs.Points as points
 use Rattle.plan.specs.declared.Plan.the-variants as plan
@@ -71,6 +72,8 @@ pub record DemandTwo : Type 1 where
   -- exp of v ≤ 0 is finite and lies from 0 to 1; 2^-K stays normal
   pub exp-range : (v : Float) → T (not (isNan v)) → T (le v zero64) → T (finite (expv v)) × T (le zero64 (expv v)) × T (le (expv v) one64)
   pub exp-halvings : (v : Float) → T (le floor708 v) → T (le v zero64) → expK v ≤ 1021
+  -- for every v from -708 to 0, exp is true to a part in 2^48, by every partial sum of the power series at v
+  pub exp-near : (v : Float) → T (fits binary64 v) → T (le floor708 v) → T (le v zero64) → NearPowerSeries (fractionOf v) (fractionOf (expv v))
   -- of a positive normal number every step of ln is finite, and v is m·2^e exactly
   pub ln-finite : (v : Float) → T (fits binary64 v) → T (le leastNormal v) → T (lt v inf64) → LnFinite v
   pub ln-split : (v : Float) → T (fits binary64 v) → T (le leastNormal v) → T (lt v inf64)

@@ -13,6 +13,7 @@ unfoldable pub use Rattle.exponent_table.specs.Reduction.{expK}
 unfoldable pub use Rattle.elementary.specs.Exp.{expv}
 unfoldable pub use Rattle.elementary.specs.Ln.{lnv}
 pub use Rattle.elementary.specs.LnSteps.{LnFinite, SplitAs}
+pub use Rattle.accuracy.specs.PowerSeries.{NearPowerSeries}
 pub use Rattle.refusal.specs.Numbers.{refusalNumber}
 pub use Rattle.refusal.specs.declared.Refusal.{Refusal}
 pub use Rattle.refusal.specs.declared.Refusal.the-variants.{Singular, InverseNotFinite, CoefficientNotFinite, UnfitRecord, AlreadyEnded, LengthsDiffer, ResponseNotFinite, CoordinateNotFinite, PredictorNotFinite, OutputTooShort, DeviationNotFinite}

@@ -1,10 +1,11 @@
 //! Times of the proved code against 000, in the same run, and the stack that a fit takes: `bench [REPEATS] [TABLE..]`, with the
-//! tables `fits`, `growth`, `weights`, `elementary`, `turns` and `stack`, all of them if none is named.
+//! tables `fits`, `growth`, `weights`, `elementary`, `accuracy`, `turns` and `stack`, all of them if none is named.
 //!
 //! `bench once N P KERNEL KIND SIDE` makes one fit, for scripts/instructions.sh.
 //!
 //! Each line has the medians of the sides and their ratios (proved by the other; below 1 the proved code is faster).
 
+mod accuracy;
 mod fits;
 mod single;
 mod stack;
@@ -30,11 +31,12 @@ fn main() -> ExitCode {
         words.remove(0);
     }
     let repeats: usize = given.unwrap_or(7).max(1);
-    let tables: [(&str, &dyn Fn()); 6] = [
+    let tables: [(&str, &dyn Fn()); 7] = [
         ("fits", &|| fits::fits(repeats)),
         ("growth", &|| fits::growth(repeats)),
         ("weights", &|| single::weights(9 * repeats)),
         ("elementary", &|| single::elementary(3 * repeats)),
+        ("accuracy", &accuracy::accuracy),
         ("turns", &|| turns::turns(repeats)),
         ("stack", &stack::stacks),
     ];

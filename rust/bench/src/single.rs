@@ -77,7 +77,7 @@ fn scalar_root(x: f64) -> f64 {
     root
 }
 
-fn exponentials(values: &mut [f64]) {
+pub fn exponentials(values: &mut [f64]) {
     // SAFETY: as for `roots`.
     unsafe { linked::zescolumba_exponentials(values.as_mut_ptr(), values.len()) }
 }
