@@ -4,55 +4,32 @@ use mathlib.Core.List.{List}
 use Prim.Native.Nat.{ℕ, _+_, _*_}
 use native.Mathlib.Omega.{arith}
 use borrow.Author.Tests.{eq-eqb, le-ltb}
-use lib.Dec.{leb}
 use lib.ListN.{length}
-use lib.Ieee.{Float, le}
+use lib.Ieee.{Float}
 use Rattle.checks.specs.declared.Check.the-variants as check
-use Rattle.claims.specs.Words.{judge, GwrBandwidth, Fixed, AdaptiveKnn, GwrOptions, Setup, Usable, Data, setupOf, Sized, Bracket, Plan, Acceptance, leastDistance, leastCount, greatestCount, valueTests, outputTests, lengthsFit, resolveInitialBandwidth, distancePlan, countPlan, searchPlan, planAt, planOf, acceptOf, planned, answered, gwrFit, Stage, First, Final, Job, freshJob, OfKind, TrialsAt, Sound, startJob, begunWith, beginOf, lentTests}
-use Rattle.claims.proofs.Laws.{either, Serves, accept-planned, Accepted, kind-at, Holds}
+use Rattle.claims.specs.Words.{judge, GwrBandwidth, Fixed, AdaptiveKnn, GwrOptions, Setup, Data, setupOf, Sized, Bracket, Plan, Acceptance, valueTests, outputTests, lengthsFit, planOf, acceptOf, planned, answered, gwrFit, Stage, First, Final, Job, freshJob, OfKind, TrialsAt, Sound, startJob, begunWith, beginOf, lentTests}
+use Rattle.claims.proofs.Laws.{Serves, accept-planned, Accepted, kind-at, Holds}
 use Rattle.plan.specs.declared.Plan.the-variants as plan
 use Rattle.plan.specs.declared.Acceptance.the-variants as acceptance
 use Rattle.starting.specs.declared.Beginning.the-variants as beginning
 
 -- ---- the bandwidth is of the options' kind
 
-abbrev Like : GwrBandwidth → GwrBandwidth → Type 0
-Like (Fixed a) (Fixed b) = Unit {0}
-Like (Fixed a) (AdaptiveKnn k) = ⊥
-Like (AdaptiveKnn j) (Fixed b) = ⊥
-Like (AdaptiveKnn j) (AdaptiveKnn k) = Unit {0}
-
-like-kind : (kind b : GwrBandwidth) → Like kind b → Usable b → OfKind kind b
-like-kind (Fixed a) (Fixed b) h v = tt
-like-kind (Fixed a) (AdaptiveKnn k) h v = h
-like-kind (AdaptiveKnn j) (Fixed b) h v = h
-like-kind (AdaptiveKnn j) (AdaptiveKnn k) h v = v
-
-abbrev PlanLike : GwrBandwidth → Plan → Type 0
-PlanLike kind (plan.Settled b) = Like kind b
-PlanLike kind (plan.Sought lo hi) = Unit {0}
-
-plan-like : (u : Setup) (hi : Float) → PlanLike (u .options .bandwidth) (planAt u hi)
-unfolding planAt searchPlan distancePlan countPlan resolveInitialBandwidth
-plan-like u hi = either (PlanLike (u .options .bandwidth)) (u .options .«optimize_bandwidth») _ _ (sought (u .options .bandwidth)) (given (u .options .bandwidth))
-  where
-    sought : (w : GwrBandwidth) → PlanLike w (searchPlan w hi (u .n) (u .p))
-    sought (Fixed b) = either (PlanLike (Fixed b)) (le hi (leastDistance hi (u .n))) _ _ tt tt
-    sought (AdaptiveKnn k) = either (PlanLike (AdaptiveKnn k)) (leb (greatestCount (u .n) (u .p)) (leastCount (u .p))) _ _ tt tt
-
-    given : (w : GwrBandwidth) → Like w (resolveInitialBandwidth w (u .n))
-    given (Fixed b) = tt
-    given (AdaptiveKnn k) = tt
+settled-kind : (kind b : GwrBandwidth) → Serves kind (plan.Settled b) → OfKind kind b
+settled-kind (Fixed a) (Fixed b) s = tt
+settled-kind (Fixed a) (AdaptiveKnn k) s = s .1
+settled-kind (AdaptiveKnn j) (Fixed b) s = s .1
+settled-kind (AdaptiveKnn j) (AdaptiveKnn k) s = s .0
 
 -- ---- the job
 
 fresh-sound : (u : Setup) (x : Stage) (g : Bracket) (b : GwrBandwidth) → Sized u → OfKind (u .options .bandwidth) b → TrialsAt x 0 → Sound 0 (freshJob u x g b)
 fresh-sound u x g b z k t = record { sized = z; within = omega (arith, z .enough); kind = k; solves = omega arith; trials = t }
 
-planned-holds : (u : Setup) (out : List Float) → Sized u → (q : Plan) → Serves q → PlanLike (u .options .bandwidth) q → Holds u (length out) (startJob u q, out)
-planned-holds u out z (plan.Settled b) v k =
-    record { setup = refl; held = fresh-sound u Final _ b z (like-kind (u .options .bandwidth) b k v) (omega arith); length-is = refl }
-planned-holds u out z (plan.Sought lo hi) v k =
+planned-holds : (u : Setup) (out : List Float) → Sized u → (q : Plan) → Serves (u .options .bandwidth) q → Holds u (length out) (startJob u q, out)
+planned-holds u out z (plan.Settled b) v =
+    record { setup = refl; held = fresh-sound u Final _ b z (settled-kind (u .options .bandwidth) b v) (omega arith); length-is = refl }
+planned-holds u out z (plan.Sought lo hi) v =
     record { setup = refl; held = fresh-sound u First _ _ z (kind-at u _ z) refl; length-is = refl }
 
 module _ (d : Data) (p : ℕ) (o : GwrOptions) (out : List Float) where
@@ -83,7 +60,7 @@ module _ (d : Data) (p : ℕ) (o : GwrOptions) (out : List Float) where
         fit = ap (λ (a : Acceptance). answered a u d out) i;
         holds =
             subst⁻¹ (λ (j : Job). Holds u (length out) (j, out)) job
-            (planned-holds u out (s .accepted .shaped .sized) own (subst Serves (s .is) (s .serves)) (plan-like u _));
+            (planned-holds u out (s .accepted .shaped .sized) own (subst (Serves (o .bandwidth)) (s .is) (s .serves)));
       }
 
   pub started : beginOf d p o (length out) .answer ≡ beginning.Ready → Started

@@ -25,7 +25,6 @@ pub use Rattle.kernel.specs.Weight.{FromZeroToOne}
 unfoldable pub use Rattle.kernel.specs.Weight.{squaresOf, distanceOf, weightOf, weighed, unusable}
 pub use Rattle.kernel.specs.declared.GwrKernel.{GwrKernel}
 pub use Rattle.kernel.specs.declared.GwrKernel.the-variants.{Gaussian, Bisquare, Exponential}
-pub use Rattle.setup.specs.Bandwidth.{Usable}
 pub use Rattle.setup.specs.Data.{Data}
 pub use Rattle.setup.specs.Shape.{setupOf, Sized}
 pub use Rattle.setup.specs.declared.GwrBandwidth.{GwrBandwidth}
@@ -60,13 +59,12 @@ pub use Rattle.golden.specs.Kiefer.{Span, SearchInside, Inside, Framed, KieferR
 unfoldable pub use Rattle.golden.specs.Kiefer.{triedOf, playedOf}
 pub use Rattle.golden.specs.declared.Bracket.{Bracket}
 unfoldable pub use Rattle.wire.specs.Wire.{realOf}
-pub use Rattle.bounds.specs.Bounds.{leastCount, greatestCount}
-unfoldable pub use Rattle.bounds.specs.Bounds.{bandwidthAt, fartherPair, fartherFrom, greatestDistance, leastDistance}
+unfoldable pub use Rattle.bounds.specs.Bounds.{bandwidthAt, fartherPair, fartherFrom, greatestDistance}
 pub use Rattle.input.specs.Checks.{fitTests}
 unfoldable pub use Rattle.input.specs.Checks.{inputTests, valueTests, outputTests, lengthsFit, unusableGiven, nothingBetween}
 pub use Rattle.input.specs.Conditions.{SomeNotFinite, UnusableGiven, NothingBetween}
 pub use Rattle.plan.specs.Plan.{planOf}
-unfoldable pub use Rattle.plan.specs.Plan.{acceptOf, resolveInitialBandwidth, distancePlan, countPlan, searchPlan, planAt}
+unfoldable pub use Rattle.plan.specs.Plan.{acceptOf}
 pub use Rattle.plan.specs.declared.Acceptance.{Acceptance}
 pub use Rattle.plan.specs.declared.Acceptance.the-variants.{Planned}
 pub use Rattle.plan.specs.declared.Plan.{Plan}

@@ -1,4 +1,4 @@
--- What an accepted input is planned for, and that a plan's bandwidth can be used.
+-- What an accepted input is planned for, and that a plan's bandwidth can be used and is of the kind asked for.
 use mathlib.Core.Path.{_≡_, refl, sym, subst⁻¹, _∙_}
 use mathlib.Core.Bool.{Bool, true, false, cond}
 use mathlib.Core.Logic.{inl, inr}
@@ -15,7 +15,7 @@ use Rattle.setup.specs.declared.Setup.{Setup}
 use Rattle.setup.specs.Bandwidth.{Usable}
 use Rattle.setup.specs.Data.{Data}
 use Rattle.setup.specs.Shape.{setupOf, Sized}
-use Rattle.counts.specs.Count.{resolveCount}
+use Rattle.counts.proofs.Bounds.{resolve-some, resolve-few}
 use Rattle.checks.specs.declared.Check.the-variants as check
 use Rattle.checks.specs.Judge.{judge, ruled, NoneOf, Decides}
 use Rattle.checks.proofs.Judge.{ruled-append, none-append, decided, decides}
@@ -52,25 +52,33 @@ module _ (u : Setup) (h k : Float) (e : seeksDistance (u .options .«optimize_ba
 
 -- ---- bandwidths that can be used
 
--- the bandwidth that a plan settles can be used
-abbrev pub Serves : Plan → Type 0
-Serves (Settled b) = Usable b
-Serves (Sought lo hi) = Unit
+-- one of the same kind
+abbrev pub Like : GwrBandwidth → GwrBandwidth → Type 0
+Like (Fixed a) (Fixed b) = Unit {0}
+Like (Fixed a) (AdaptiveKnn k) = ⊥
+Like (AdaptiveKnn j) (Fixed b) = ⊥
+Like (AdaptiveKnn j) (AdaptiveKnn k) = Unit {0}
+
+-- the bandwidth that a plan settles can be used, and is of the kind that is asked for
+abbrev pub Serves : GwrBandwidth → Plan → Type 0
+Serves kind (Settled b) = Usable b × Like kind b
+Serves kind (Sought lo hi) = Unit
 
 module _ (u : Setup) (s : Sized u) where
-  given-serves : (w : GwrBandwidth) → Usable (resolveInitialBandwidth w (u .n))
-  unfolding resolveInitialBandwidth resolveCount
-  given-serves (Fixed b) = tt
-  given-serves (AdaptiveKnn k) = record { some = omega arith; few = omega (arith, s .few) }
+  given-serves : (w : GwrBandwidth) → Serves w (Settled (resolveInitialBandwidth w (u .n)))
+  unfolding resolveInitialBandwidth
+  given-serves (Fixed b) = (tt, tt)
+  given-serves (AdaptiveKnn k) = (record { some = resolve-some k (u .n); few = resolve-few k (u .n) (s .few) }, tt)
 
-  search-serves : (w : GwrBandwidth) (hi : Float) → Serves (searchPlan w hi (u .n) (u .p))
+  search-serves : (w : GwrBandwidth) (hi : Float) → Serves w (searchPlan w hi (u .n) (u .p))
   unfolding searchPlan distancePlan countPlan
-  search-serves (Fixed b) hi = either Serves (le hi (leastDistance hi (u .n))) _ _ tt tt
-  search-serves (AdaptiveKnn k) hi = either Serves (leb (greatestCount (u .n) (u .p)) (leastCount (u .p))) _ _ (record { some = omega arith; few = omega (arith, s .narrow) }) tt
+  search-serves (Fixed b) hi = either (Serves (Fixed b)) (le hi (leastDistance hi (u .n))) _ _ (tt, tt) tt
+  search-serves (AdaptiveKnn k) hi =
+      either (Serves (AdaptiveKnn k)) (leb (greatestCount (u .n) (u .p)) (leastCount (u .p))) _ _ (record { some = omega arith; few = omega (arith, s .narrow) }, tt) tt
 
-  pub plan-serves : (hi : Float) → Serves (planAt u hi)
+  pub plan-serves : (hi : Float) → Serves (u .options .bandwidth) (planAt u hi)
   unfolding planAt
-  plan-serves hi = either Serves (u .options .«optimize_bandwidth») _ _ (search-serves (u .options .bandwidth) hi) (given-serves (u .options .bandwidth))
+  plan-serves hi = either (Serves (u .options .bandwidth)) (u .options .«optimize_bandwidth») _ _ (search-serves (u .options .bandwidth) hi) (given-serves (u .options .bandwidth))
 
 -- ---- an input that is accepted
 
@@ -79,7 +87,7 @@ pub record PlannedAs (d : Data) (p : ℕ) (o : GwrOptions) (out : ℕ) (q : Plan
   pub passed : NoneOf (fitTests d p o out)
   pub accepted : Accepted d p o out
   pub is : q ≡ planOf (setupOf d p o) d
-  pub serves : Serves q
+  pub serves : Serves (o .bandwidth) q
 
 planned-one : {q s : Plan} → Planned q ≡ Planned s → q ≡ s
 planned-one e = cc
@@ -114,5 +122,5 @@ module _ (d : Data) (p : ℕ) (o : GwrOptions) (out : ℕ) where
         | inr n ↦
             let a = input-accepted d p out o (none-append (inputTests d p out) (optionTests u d) n .0) in
             let i : q ≡ planOf u d = planned-one (sym e ∙ accept-decides .served n) in
-            record { passed = n; accepted = a; is = i; serves = subst⁻¹ Serves i (plan-serves u (a .shaped .sized) (greatestDistance (d .coords) (u .n))) }
+            record { passed = n; accepted = a; is = i; serves = subst⁻¹ (Serves (o .bandwidth)) i (plan-serves u (a .shaped .sized) (greatestDistance (d .coords) (u .n))) }
       ]

@@ -10,7 +10,7 @@ use Rattle.gwr.proofs.gwr_fit.Tie as tie
 final-of-requires : tie.Need-final-of-requires
 final-of-requires c κs =
     let a = accept-planned _ _ _ _ (sym (c .before .before .before .before .before .before .before .accept .ensures) ∙ c .before .before .before .before .before .acceptance2 .given .1) in
-    (a .accepted .shaped, (subst Serves (c .before .before .q .given .1) (a .serves), (a .accepted .room, omega arith)))
+    (a .accepted .shaped, (subst (Serves _) (c .before .before .q .given .1) (a .serves) .0, (a .accepted .room, omega arith)))
 
 sought-of-requires : tie.Need-sought-of-requires
 sought-of-requires c κs =
