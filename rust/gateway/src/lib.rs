@@ -93,9 +93,9 @@ impl GwrKernel {
 pub enum GwrBandwidth {
     /// The same distance at every location.
     Fixed(f64),
-    /// At each location the distance to its k-th nearest neighbour. 0 stands for the default, the larger of p + 3 and the least
-    /// whole number whose square reaches n (in the ported module: of 2 and that number). Any count is then capped at n - 1 and
-    /// raised to at least 1; [`GwrResult::bandwidth`] reports what became of it.
+    /// At each location the distance to its k-th nearest neighbour. Where the count is not searched, 0 stands for the default,
+    /// the larger of p + 3 and the least whole number whose square reaches n (in the ported module: of 2 and that number), and
+    /// any count is then capped at n - 1 and raised to at least 1; [`GwrResult::bandwidth`] reports what became of it.
     ///
     /// ```
     /// use gateway::{GwrBandwidth, GwrKernel, GwrOptions, gwr_fit};
