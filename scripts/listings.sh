@@ -5,7 +5,7 @@
 set -u
 cd "$(dirname "$0")/../tests/listings" || exit 2
 . ../../scripts/count.sh
-least=43
+least=47
 
 names=$(sed -n 's/^\([a-z0-9-]*\): .*/\1/p' jobs.txt)
 for name in $names; do

@@ -7,9 +7,10 @@ use lib.ListN.{getD}
 use lib.Ieee.{nan}
 use lib.Ieee.Scale.{finite}
 use Rattle.claims.specs.Words.{At, between, NoneOf, GwrOptions, Data, setupOf, Acceptance, inputTests, fitTests, answered, gwrFit}
-use Rattle.claims.proofs.Laws.{at-finite, plus-once, minus-once, times-once, over-once, opposite-exact, less-exact, constants-exact, root-nearest, root-of-negative, root-of-nan, root-of-infinity, root-of-zero, exp-in, K-le, near-power-series, ln-finite, split-exact, weights-in, weight-zero, weight-rounded, weight-apart, gaussian-exact, bisquare-exact, bisquare-outside, exponential-exact, ceil-root-least, nearest-is-kth, all-ascending, all-met, weight-sum, published-exact, aicc-rounded, aicc-refused, aicc-exhausted, aicc-floored, G-is, G2-is, near-golden, start-section, round-section, residues, golden-section, round-kiefer, searched, round-narrows, bottom-kept, bottom-stays, normal-equations, none-append, Accepted, input-accepted, fit-literal}
+use Rattle.claims.proofs.Laws.{at-finite, plus-once, minus-once, times-once, over-once, opposite-exact, less-exact, constants-exact, root-nearest, root-of-negative, root-of-nan, root-of-infinity, root-of-zero, exp-in, K-le, near-power-series, ln-finite, split-exact, weights-in, weight-zero, weight-rounded, weight-apart, gaussian-exact, bisquare-exact, bisquare-outside, exponential-exact, ceil-root-least, default-count, given-count, nearest-is-kth, all-ascending, all-met, weight-sum, published-exact, aicc-rounded, aicc-refused, aicc-exhausted, aicc-floored, G-is, G2-is, near-golden, start-section, round-section, residues, golden-section, round-kiefer, searched, round-narrows, bottom-kept, bottom-stays, normal-equations, none-append, Accepted, input-accepted, fit-literal}
 use Rattle.claims.specs.DemandTwo.{DemandTwo}
 use Rattle.claims.proofs.Spanning.{job-span, job-searched}
+use Rattle.claims.proofs.Naming.{by-count, count-named}
 
 -- ---- the coordinates of an accepted job are finite
 
@@ -76,7 +77,11 @@ demand-two =
       all-distances = λ coords i m. all-met (At i) (between coords i) m;
       ascending =
           λ d p o out a i h. all-ascending (d .coords) _ _ (At i) (setupOf d p o .n) (east d p o out a i h) (north d p o out a i h) (places d p o out a);
+      default-count = default-count;
       least-root = ceil-root-least;
+      given-count = given-count;
+      by-count = by-count;
+      count-named = count-named;
       aicc-formula = aicc-rounded;
       aicc-order = published-exact;
       aicc-zero = aicc-floored;

@@ -1,7 +1,7 @@
 -- The laws that the proofs of the demands take from the crates below, handed on in the order of the crates. No proof.
 pub use Rattle.real.proofs.Cases.{either, never}
 pub use Rattle.real.proofs.Finite.{at-finite}
-pub use Rattle.real.proofs.Fold.{kept}
+pub use Rattle.real.proofs.Fold.{kept, related}
 pub use Rattle.real.proofs.RoundedOnce.{plus-once, minus-once, times-once, over-once, opposite-exact, less-exact, constants-exact}
 pub use Rattle.real.proofs.SignedOrder.{nonneg, here-or-on, apart, le-tr, le-total, lt→le, nlt→le}
 pub use Rattle.root.proofs.Nearest.{root-nearest, root-of-negative, root-of-nan, root-of-infinity, root-of-zero}
@@ -17,6 +17,7 @@ pub use Rattle.kernel.proofs.Published.{weight-rounded, weight-apart, gaussian-
 pub use Rattle.kernel.proofs.Reaches.{squares-fits, distance-is}
 pub use Rattle.kernel.proofs.WeightRange.{weights-in, weight-zero}
 pub use Rattle.counts.proofs.Roots.{ceil-root-least}
+pub use Rattle.counts.proofs.Defaults.{default-count, given-count, named-count}
 pub use Rattle.neighbours.proofs.Smallest.{nearest-is-kth, all-ascending, all-met}
 pub use Rattle.weights.proofs.WeightSum.{weight-sum}
 pub use Rattle.estimate.proofs.Meanings.{inverse-not-finite-means, coefficient-not-finite-means}

@@ -1,7 +1,7 @@
 -- Demand 2: document 01 sets the steps of exp and ln and adds limits; else the Rust rules. Kernels, golden section, AICc and square root are held against their published definitions, the listed spots apart.
 -- Definitions only; proofs/DemandTwo proves it, each part by a theorem of the crate that has the definition.
--- That `gwr_fit` equals `gwrFit`, in every bit of its answer and its output and on every input, is its contract; `gwrFit` is 000's `gwr_fit` line by line. Here is what it says beyond that.
-use Prim.Native.Nat.{ℕ, _+_, _-_, _*_, _/_, _%_, _^_, _≤_, _<_}
+-- That `gwr_fit` equals `gwrFit`, in every bit of its answer and its output and on every input, is its contract; `gwrFit` is 000's `gwr_fit` line by line, the default count apart. Here is what it says beyond that.
+use Prim.Native.Nat.{ℕ, _+_, _-_, _*_, _/_, _%_, _^_, _≤_, _<_, min, max}
 use mathlib.Core.Path.{_≡_}
 use mathlib.Core.Bool.{Bool, true, false, not, cond}
 use mathlib.Core.List.{List, [], _∷_, List·Permᴰ}
@@ -10,12 +10,16 @@ use lib.IntN.{pos}
 use lib.ListN.{length}
 use lib.Ieee.{Float, nan, inf, fin, binary64, lt, le, eq, fits, isNan, toBits}
 use lib.Ieee.Scale.{finite}
-use Rattle.claims.specs.Words.{zero64, one64, leastNormal, inf64, fromCount, Fraction, fraction, fractionOf, Once, OnceBy, Arithmetic, rounded, exact, root, NearestRoot, floor708, expK, expv, lnv, LnFinite, SplitAs, DeviationNotFinite, GwrKernel, Gaussian, Bisquare, Exponential, unusable, weightOf, FromZeroToOne, kernelFormula, exactWeight, powerOfE, plainWeight, NoneOf, GwrBandwidth, Setup, Data, setupOf, ceilRoot, LeastRoot, At, between, nearestOf, allDistances, metDistances, Ascending, kthNearest, weightsAt, fitCoefficients, ExactFit, Solves, deviation, freedom, aiccPublished, aiccFormula, pi64, exhausted, correctedAic, Bracket, invPhi, invPhi2, G, G2, startOf, goesLeft, narrowOf, Span, Inside, Framed, KieferRound, Narrowed, triedOf, playedOf, SearchInside, Valley, ScoredBy, Follows, GwrOptions, bandwidthAt, fitTests, acceptOf, trialOf, goldenSectionMin, finalOf, gwrFit}
+use Rattle.claims.specs.Words.{zero64, one64, leastNormal, inf64, fromCount, Fraction, fraction, fractionOf, Once, OnceBy, Arithmetic, rounded, exact, root, NearestRoot, floor708, expK, expv, lnv, LnFinite, SplitAs, DeviationNotFinite, GwrKernel, Gaussian, Bisquare, Exponential, unusable, weightOf, FromZeroToOne, kernelFormula, exactWeight, powerOfE, plainWeight, NoneOf, GwrBandwidth, AdaptiveKnn, Setup, Data, setupOf, ceilRoot, LeastRoot, resolveCount, At, between, nearestOf, allDistances, metDistances, Ascending, kthNearest, weightsAt, fitCoefficients, ExactFit, Solves, deviation, freedom, aiccPublished, aiccFormula, pi64, exhausted, correctedAic, Bracket, invPhi, invPhi2, G, G2, startOf, goesLeft, narrowOf, Span, Inside, Framed, KieferRound, Narrowed, triedOf, playedOf, SearchInside, Valley, ScoredBy, Follows, GwrOptions, bandwidthAt, fitTests, acceptOf, trialOf, goldenSectionMin, finalOf, gwrFit}
 use Rattle.claims.specs.Words.{NearPowerSeries}
 use Rattle.criterion.specs.declared.Criterion.the-variants as criterion
 use Rattle.golden.specs.Points as points
 use Rattle.plan.specs.declared.Plan.the-variants as plan
 use Rattle.plan.specs.declared.Acceptance.the-variants as acceptance
+
+-- options that ask for a count and no search
+abbrev pub byCount : GwrKernel → ℕ → GwrOptions
+byCount kernel k = record { kernel = kernel; bandwidth = AdaptiveKnn k; «optimize_bandwidth» = false }
 
 pub record DemandTwo : Type 1 where
   -- ---- golden section: 000's `golden_section_min` as it is written
@@ -118,8 +122,19 @@ pub record DemandTwo : Type 1 where
   pub all-distances : (coords : List Float) (i m : ℕ) → List·Permᴰ (allDistances (At i) (between coords i) m) (metDistances (At i) (between coords i) m)
   pub ascending : (d : Data) (p : ℕ) (o : GwrOptions) (out : ℕ) → NoneOf (fitTests d p o out) → (i : ℕ) → i < setupOf d p o .n
       → Ascending (allDistances (At i) (between (d .coords) i) (setupOf d p o .n))
-  -- count 0 is the larger of 2 and the least whole number whose square is at least n
+  -- 02: an unsearched count 0 becomes the larger of p + 3 and the least whole number whose square reaches n, then is capped at n - 1 and raised to at least 1
+  pub default-count : (n p r : ℕ) → LeastRoot n r → resolveCount 0 n p ≡ max (min (max (p + 3) r) (n - 1)) 1
+  -- there is such a number
   pub least-root : (n : ℕ) → LeastRoot n (ceilRoot n)
+  -- any other count is capped and raised alone, whatever p is, as in 000
+  pub given-count : (k n p : ℕ) → 1 ≤ k → resolveCount k n p ≡ max (min k (n - 1)) 1
+  -- an accepted fit by a count is the final fit with as many neighbours as the count becomes
+  pub by-count : (d : Data) (p : ℕ) (kernel : GwrKernel) (k : ℕ) (out : List Float) →
+      let u = setupOf d p (byCount kernel k) in
+      NoneOf (fitTests d p (byCount kernel k) (length out)) → gwrFit d p (byCount kernel k) out ≡ finalOf u d (AdaptiveKnn (resolveCount k (u .n) p)) 0 out
+  -- 02: equality with `gwr_fit` is judged by handing it the resolved count. A fit by a count is the fit by what the count becomes, accepted or refused
+  pub count-named : (d : Data) (p : ℕ) (kernel : GwrKernel) (k : ℕ) (out : List Float)
+      → gwrFit d p (byCount kernel k) out ≡ gwrFit d p (byCount kernel (resolveCount k (setupOf d p (byCount kernel k) .n) p)) out
   -- ---- AICc: Fotheringham, Brunsdon and Charlton 2002
 
   -- the published formula in 000's order, each operation rounded once: the operations and 2 as above, the root the nearest to the exact one (`root-nearest`), ln by 01's steps

@@ -31,7 +31,7 @@ pub use Rattle.setup.specs.declared.GwrBandwidth.{GwrBandwidth}
 pub use Rattle.setup.specs.declared.GwrBandwidth.the-variants.{Fixed, AdaptiveKnn}
 pub use Rattle.setup.specs.declared.GwrOptions.{GwrOptions}
 pub use Rattle.setup.specs.declared.Setup.{Setup}
-pub use Rattle.counts.specs.Count.{LeastRoot}
+pub use Rattle.counts.specs.Count.{LeastRoot, resolveCount}
 unfoldable pub use Rattle.counts.specs.Count.{ceilRoot}
 pub use Rattle.neighbours.specs.Bandwidth.{localBandwidthDistance}
 pub use Rattle.neighbours.specs.Smallest.{Ascending}
@@ -39,11 +39,13 @@ unfoldable pub use Rattle.neighbours.specs.Smallest.{allDistances, metDistances
 pub use Rattle.neighbours.specs.Walk.{between, nearestOf}
 pub use Rattle.neighbours.specs.declared.Own.the-variants.{At}
 pub use Rattle.weights.specs.Weights.{weightsAt}
-unfoldable pub use Rattle.normal.specs.Equations.{equationsOf}
+unfoldable pub use Rattle.weights.specs.Weights.{weightFrom, weightsFrom}
+unfoldable pub use Rattle.normal.specs.Equations.{normalStep, equationsOf}
 pub use Rattle.estimate.specs.Estimate.{refusedWith}
 unfoldable pub use Rattle.estimate.specs.Estimate.{coefficientsOf, coefficientsFinite, fromInverse, eliminatedOf, fitCoefficients}
 unfoldable pub use Rattle.estimate.specs.Inverse.{inverseFinite, inverseCell}
 pub use Rattle.estimate.specs.NormalEquations.{ExactFit, Solves}
+unfoldable pub use Rattle.evaluate.specs.Evaluate.{squaresStep, sumSquares, localRSquared, valuesAt}
 pub use Rattle.evaluate.specs.declared.Values.{Values}
 unfoldable pub use Rattle.row.specs.Row.{putRow, rowOf}
 unfoldable pub use Rattle.local.specs.Solve.{solveLocation, outcomeOf, solveLocal}
@@ -61,14 +63,14 @@ pub use Rattle.golden.specs.declared.Bracket.{Bracket}
 unfoldable pub use Rattle.wire.specs.Wire.{realOf}
 unfoldable pub use Rattle.bounds.specs.Bounds.{bandwidthAt, fartherPair, fartherFrom, greatestDistance}
 pub use Rattle.input.specs.Checks.{fitTests}
-unfoldable pub use Rattle.input.specs.Checks.{inputTests, valueTests, outputTests, lengthsFit, unusableGiven, nothingBetween}
+unfoldable pub use Rattle.input.specs.Checks.{inputTests, valueTests, outputTests, lengthsFit, unusableGiven, seeksDistance, nothingBetween, optionTestsAt}
 pub use Rattle.input.specs.Conditions.{SomeNotFinite, UnusableGiven, NothingBetween}
-pub use Rattle.plan.specs.Plan.{planOf}
-unfoldable pub use Rattle.plan.specs.Plan.{acceptOf}
+pub use Rattle.plan.specs.Plan.{planOf, accepted}
+unfoldable pub use Rattle.plan.specs.Plan.{acceptOf, resolveInitialBandwidth, planAt}
 pub use Rattle.plan.specs.declared.Acceptance.{Acceptance}
 pub use Rattle.plan.specs.declared.Acceptance.the-variants.{Planned}
 pub use Rattle.plan.specs.declared.Plan.{Plan}
-pub use Rattle.plan.specs.declared.Plan.the-variants.{Sought}
+pub use Rattle.plan.specs.declared.Plan.the-variants.{Settled, Sought}
 pub use Rattle.sweep.specs.Finish.{finishOf}
 pub use Rattle.sweep.specs.Sweep.{rowAfter, addValues, nextLocation, newSweep, afterSolve, rowFound, visitAt, solvesAfter, endingAt, solvesOf, endingOf, sweepOf}
 unfoldable pub use Rattle.sweep.specs.Sweep.{visit, fitAllLocations}
@@ -82,7 +84,7 @@ unfoldable pub use Rattle.search.specs.Search.{optimizeBandwidth, roundOf, open
 unfoldable pub use Rattle.search.specs.Trial.{trialOf}
 pub use Rattle.search.specs.declared.Search.{Search}
 pub use Rattle.search.specs.declared.Trial.{Trial}
-pub use Rattle.gwr.specs.Fit.{answered, planned}
+pub use Rattle.gwr.specs.Fit.{fitFrom, answered, planned}
 unfoldable pub use Rattle.gwr.specs.Fit.{finalOf, gwrFit, soughtOf}
 pub use Rattle.gwr.specs.declared.Fit.{Fit}
 pub use Rattle.gwr.specs.declared.FitAnswer.{FitAnswer}

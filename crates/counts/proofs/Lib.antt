@@ -1,2 +1,3 @@
 pub mod Roots
 pub mod Bounds
+pub mod Defaults

@@ -49,8 +49,8 @@ unfolding ceilRoot
 ceil-root-least n = root-from-least n n 0 (raising n) (omega arith)
 
 -- there is one only
-only : (n a b : ℕ) → LeastRoot n a → LeastRoot n b → a ≡ b
-only n a b p q = min-cases a b (a ≡ b) (λ h _. within a b p q h) (λ h _. sym (within b a q p h))
+pub least-root-only : (n a b : ℕ) → LeastRoot n a → LeastRoot n b → a ≡ b
+least-root-only n a b p q = min-cases a b (a ≡ b) (λ h _. within a b p q h) (λ h _. sym (within b a q p h))
   where
     within : (a b : ℕ) → LeastRoot n a → LeastRoot n b → a ≤ b → a ≡ b
     within a b p q h =
@@ -60,7 +60,7 @@ only n a b p q = min-cases a b (a ≡ b) (λ h _. within a b p q h) (λ h _. sym
         ]
 
 pub rooted : {n r : ℕ} → Raising n r → n ≤ r * r → r ≡ ceilRoot n
-rooted {n} {r} p h = only n r (ceilRoot n) record { reaches = h; least = p .below } (ceil-root-least n)
+rooted {n} {r} p h = least-root-only n r (ceilRoot n) record { reaches = h; least = p .below } (ceil-root-least n)
 
 -- a square that fits
 pub small : {r : ℕ} → r ≤ 512 → r * r ≤ 262144

@@ -2,3 +2,4 @@ pub mod Computing
 pub mod Examples
 pub mod Played
 pub mod ExactFits
+pub mod DefaultCounts

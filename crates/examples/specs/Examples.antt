@@ -64,11 +64,11 @@ Scores (fit.Done (finish.Failed r s)) score = ⊥
 Scores (fit.Rejected r) score = ⊥
 
 pub record ElevenExamples : Type 0 where
-  -- count 0 gives 1 for n = 1, 4 for n = 10, 23 for n = 512; count 100 gives 9 for n = 10
-  pub one-alone : resolveCount 0 1 ≡ 1
-  pub among-ten : resolveCount 0 10 ≡ 4
-  pub among-most : resolveCount 0 512 ≡ 23
-  pub capped : resolveCount 100 10 ≡ 9
+  -- count 0 gives 1 for n = 1, 4 for n = 10, 23 for n = 512; count 100 gives 9 for n = 10; by 02 these are the values for p = 0
+  pub one-alone : resolveCount 0 1 0 ≡ 1
+  pub among-ten : resolveCount 0 10 0 ≡ 4
+  pub among-most : resolveCount 0 512 0 ≡ 23
+  pub capped : resolveCount 100 10 0 ≡ 9
   -- Bisquare: d = 1, b = 2 gives 0.5625; d = b gives 0
   pub bisquare-within : weightOf Bisquare (wholeNumber 1) (wholeNumber 2) ≡ ofBits binary64 0x3FE2_0000_0000_0000
   pub bisquare-border : weightOf Bisquare (wholeNumber 2) (wholeNumber 2) ≡ zero64

@@ -1,3 +1,4 @@
 pub mod Examples
 pub mod Played
 pub mod ExactFits
+pub mod DefaultCounts

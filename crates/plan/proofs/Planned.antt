@@ -41,7 +41,7 @@ module _ (u : Setup) (h k : Float) (e : seeksDistance (u .options .«optimize_ba
   unfolding planAt searchPlan seeksDistance
   plan-blind = go (u .options .«optimize_bandwidth») (u .options .bandwidth) e
     where
-      go : (t : Bool) (w : GwrBandwidth) → seeksDistance t w ≡ false → cond t (searchPlan w h (u .n) (u .p)) (Settled (resolveInitialBandwidth w (u .n))) ≡ cond t (searchPlan w k (u .n) (u .p)) (Settled (resolveInitialBandwidth w (u .n)))
+      go : (t : Bool) (w : GwrBandwidth) → seeksDistance t w ≡ false → cond t (searchPlan w h (u .n) (u .p)) (Settled (resolveInitialBandwidth w (u .n) (u .p))) ≡ cond t (searchPlan w k (u .n) (u .p)) (Settled (resolveInitialBandwidth w (u .n) (u .p)))
       go true (Fixed b) e = cc
       go true (AdaptiveKnn c) e = refl
       go false w e = refl
@@ -65,10 +65,10 @@ Serves kind (Settled b) = Usable b × Like kind b
 Serves kind (Sought lo hi) = Unit
 
 module _ (u : Setup) (s : Sized u) where
-  given-serves : (w : GwrBandwidth) → Serves w (Settled (resolveInitialBandwidth w (u .n)))
+  given-serves : (w : GwrBandwidth) → Serves w (Settled (resolveInitialBandwidth w (u .n) (u .p)))
   unfolding resolveInitialBandwidth
   given-serves (Fixed b) = (tt, tt)
-  given-serves (AdaptiveKnn k) = (record { some = resolve-some k (u .n); few = resolve-few k (u .n) (s .few) }, tt)
+  given-serves (AdaptiveKnn k) = (record { some = resolve-some k (u .n) (u .p); few = resolve-few k (u .n) (u .p) (s .few) }, tt)
 
   search-serves : (w : GwrBandwidth) (hi : Float) → Serves w (searchPlan w hi (u .n) (u .p))
   unfolding searchPlan distancePlan countPlan

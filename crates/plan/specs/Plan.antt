@@ -20,10 +20,10 @@ use Rattle.plan.specs.declared.Acceptance.the-variants.{Refused, Planned
 use Rattle.bounds.specs.Bounds.{greatestDistance, leastDistance, leastCount, greatestCount}
 use Rattle.input.specs.Checks.{optionTestsAt, fitTests}
 
--- 000's `resolve_initial_bandwidth`: the distance given, or the count, after capping and raising
-unfoldable pub resolveInitialBandwidth : GwrBandwidth → ℕ → GwrBandwidth
-resolveInitialBandwidth (Fixed b) n = Fixed b
-resolveInitialBandwidth (AdaptiveKnn k) n = AdaptiveKnn (resolveCount k n)
+-- 000's `resolve_initial_bandwidth`, its default count apart: the distance given, or what the count becomes
+unfoldable pub resolveInitialBandwidth : GwrBandwidth → ℕ → ℕ → GwrBandwidth
+resolveInitialBandwidth (Fixed b) n p = Fixed b
+resolveInitialBandwidth (AdaptiveKnn k) n p = AdaptiveKnn (resolveCount k n p)
 
 -- 01: if lo ≥ hi the answer is lo with no trial
 unfoldable pub distancePlan : Float → Float → Plan
@@ -44,7 +44,7 @@ searchPlan (AdaptiveKnn k) hi n p = countPlan n p
 unfoldable pub planAt : Setup → Float → Plan
 planAt u hi =
     cond (u .options .«optimize_bandwidth») (searchPlan (u .options .bandwidth) hi (u .n) (u .p))
-    (Settled (resolveInitialBandwidth (u .options .bandwidth) (u .n)))
+    (Settled (resolveInitialBandwidth (u .options .bandwidth) (u .n) (u .p)))
 
 abbrev pub planOf : Setup → Data → Plan
 planOf u d = planAt u (greatestDistance (d .coords) (u .n))

@@ -21,13 +21,13 @@ use setup::GwrOptions;
 use setup::Setup;
 
 // The bandwidth given, a count resolved.
-fn resolve_initial_bandwidth(bandwidth: GwrBandwidth, n: usize) -> GwrBandwidth
-    requires { ⌜ (1 ≤ n) × (n ≤ 512) ⌝ }
-    ensures { λ r. ⌜ r ≡ resolveInitialBandwidth bandwidth n ⌝ }
+fn resolve_initial_bandwidth(bandwidth: GwrBandwidth, n: usize, p: usize) -> GwrBandwidth
+    requires { ⌜ (1 ≤ n) × (n ≤ 512) × (p ≤ 7) ⌝ }
+    ensures { λ r. ⌜ r ≡ resolveInitialBandwidth bandwidth n p ⌝ }
 {
     match bandwidth {
         GwrBandwidth::Fixed(b) => GwrBandwidth::Fixed(b),
-        GwrBandwidth::AdaptiveKnn(k) => GwrBandwidth::AdaptiveKnn(counts::resolve_count(k, n)),
+        GwrBandwidth::AdaptiveKnn(k) => GwrBandwidth::AdaptiveKnn(counts::resolve_count(k, n, p)),
     }
 }
 
@@ -75,7 +75,7 @@ fn plan_at(u: Setup, hi: f64) -> Plan
     if options.optimize_bandwidth {
         return search_plan(bandwidth, hi, u.n, u.p);
     }
-    Plan::Settled(resolve_initial_bandwidth(bandwidth, u.n))
+    Plan::Settled(resolve_initial_bandwidth(bandwidth, u.n, u.p))
 }
 
 // Refusals 11 and 12, or what the job does.

@@ -31,7 +31,8 @@ extern "C" {
  *
  * coords     2n numbers, easting then northing           x  n * p numbers, row by row
  * y          n responses                                 out  at least n * (p + 4) numbers
- * bandwidth  the bits of a distance, or a count (0: the default count)
+ * bandwidth  the bits of a distance, or a count. An unsearched count of 0 becomes the larger of p + 3 and the least whole number
+ *            whose square reaches n; any unsearched count is then capped at n - 1 and raised to at least 1
  * summary    at least 24 bytes: bandwidth, AICc, number of local solves
  *
  * Row i of out: p + 1 coefficients with the intercept first, prediction, residual, local R squared.

@@ -3,7 +3,8 @@
 //! The computation is written in Rattle and proved equal to its definition on every input; this crate hands it the bytes. Types,
 //! fields and calls have the names of the Rust module that was ported, so that a caller of that module changes one `use` line.
 //! Added are [`GwrResult::solves`], the numbered [`Refusal`] in place of error text, and limits of 512 observations and 7
-//! predictors. exp and ln are worked by fixed steps, so results do not depend on the platform's.
+//! predictors. exp and ln are worked by fixed steps, so results do not depend on the platform's. The default count is another
+//! one than there ([`GwrBandwidth::AdaptiveKnn`]): a caller that relied on it names its count.
 //!
 //! ```
 //! use gateway::{GwrBandwidth, GwrKernel, GwrOptions, gwr_fit};
@@ -92,7 +93,28 @@ impl GwrKernel {
 pub enum GwrBandwidth {
     /// The same distance at every location.
     Fixed(f64),
-    /// At each location the distance to its k-th nearest neighbour. 0 stands for a default that grows with the root of n.
+    /// At each location the distance to its k-th nearest neighbour. Where the count is not searched, 0 stands for the default,
+    /// the larger of p + 3 and the least whole number whose square reaches n (in the ported module: of 2 and that number), and
+    /// any count is then capped at n - 1 and raised to at least 1; [`GwrResult::bandwidth`] reports what became of it.
+    ///
+    /// ```
+    /// use gateway::{GwrBandwidth, GwrKernel, GwrOptions, gwr_fit};
+    ///
+    /// let coords: Vec<(f64, f64)> = (0..10).map(|i| (f64::from(i), f64::from(i * i))).collect();
+    /// let x: Vec<Vec<f64>> = (0..10).map(|i| vec![f64::from(i % 3), f64::from(i % 4)]).collect();
+    /// let y: Vec<f64> = (0..10).map(f64::from).collect();
+    /// let bandwidth = |k| {
+    ///     let options = GwrOptions {
+    ///         kernel: GwrKernel::Gaussian,
+    ///         bandwidth: GwrBandwidth::AdaptiveKnn(k),
+    ///         optimize_bandwidth: false,
+    ///     };
+    ///     gwr_fit(&coords, &x, &y, &options).map(|fit| fit.bandwidth)
+    /// };
+    /// assert_eq!(bandwidth(0), Ok(5.0)); // two predictors and ten observations; 4 in the ported module
+    /// assert_eq!(bandwidth(4), Ok(4.0));
+    /// assert_eq!(bandwidth(100), Ok(9.0));
+    /// ```
     AdaptiveKnn(usize),
 }
 
@@ -225,7 +247,7 @@ mod tests {
 
     const COUNT: GwrOptions = GwrOptions {
         kernel: GwrKernel::Gaussian,
-        bandwidth: GwrBandwidth::AdaptiveKnn(0),
+        bandwidth: GwrBandwidth::AdaptiveKnn(4),
         optimize_bandwidth: false,
     };
 
@@ -243,7 +265,7 @@ mod tests {
     fn a_line_is_found() {
         let (coords, x, y) = line(20);
         for optimize_bandwidth in [false, true] {
-            for bandwidth in [GwrBandwidth::Fixed(5.0), GwrBandwidth::AdaptiveKnn(0)] {
+            for bandwidth in [GwrBandwidth::Fixed(5.0), GwrBandwidth::AdaptiveKnn(5)] {
                 let options = GwrOptions {
                     bandwidth,
                     optimize_bandwidth,
@@ -271,9 +293,51 @@ mod tests {
             };
             gwr_fit(&coords, &x, &y, &options).unwrap().bandwidth
         };
-        assert_eq!(fit(0), 4.0);
+        assert_eq!(fit(4), 4.0);
         assert_eq!(fit(100), 9.0);
         assert_eq!(fit(usize::MAX), 9.0);
+    }
+
+    /// A fit with the default count, of n places on a curve and p predictors.
+    fn by_default(n: usize, p: usize, kernel: GwrKernel) -> Result<GwrResult, Refusal> {
+        let coords: Vec<(f64, f64)> = (0..n).map(|i| (i as f64, (i * i) as f64)).collect();
+        let x: Vec<Vec<f64>> = (0..n)
+            .map(|i| {
+                (0..p)
+                    .map(|j| ((i * i + 7 * j) * (i + j + 1) * 31 % 97) as f64)
+                    .collect()
+            })
+            .collect();
+        let y: Vec<f64> = (0..n).map(|i| (i % 13) as f64).collect();
+        let options = GwrOptions {
+            kernel,
+            ..GwrOptions::default()
+        };
+        gwr_fit(&coords, &x, &y, &options)
+    }
+
+    #[test]
+    fn the_default_count() {
+        // 01's values, which are those for p = 0; then some where the module that was ported takes fewer.
+        for (n, p, count) in [
+            (1, 0, 1.0),
+            (2, 0, 1.0),
+            (10, 0, 4.0),
+            (512, 0, 23.0),
+            (4, 0, 3.0),
+            (10, 2, 5.0),
+            (16, 7, 10.0),
+            (8, 7, 7.0),
+        ] {
+            let fit = by_default(n, p, GwrKernel::Gaussian).unwrap();
+            assert_eq!(fit.bandwidth, count, "n {n} p {p}");
+        }
+        // The farthest neighbour weighs nothing: two weights for three columns.
+        assert_eq!(
+            by_default(3, 2, GwrKernel::Bisquare),
+            Err(Refusal::Singular)
+        );
+        assert!(by_default(10, 2, GwrKernel::Bisquare).is_ok());
     }
 
     #[test]
@@ -334,7 +398,11 @@ mod tests {
             .map(|i| (0..7).map(|j| ((i * (j + 3) * 31) % 97) as f64).collect())
             .collect();
         let y: Vec<f64> = (0..n).map(|i| (i % 13) as f64).collect();
-        let fit = gwr_fit(&coords, &x, &y, &COUNT).unwrap();
+        let options = GwrOptions {
+            bandwidth: GwrBandwidth::AdaptiveKnn(23),
+            ..COUNT
+        };
+        let fit = gwr_fit(&coords, &x, &y, &options).unwrap();
         assert_eq!((fit.solves, fit.bandwidth), (512, 23.0));
         assert!(fit.coefficients.iter().all(|row| row.len() == 8));
     }

@@ -62,11 +62,26 @@ fn the_example_with_every_kernel_and_kind() {
 #[test]
 fn a_file_and_an_aligned_table() {
     let file = concat!(env!("CARGO_MANIFEST_DIR"), "/../../examples/pantries.csv");
-    let out = gwr(&[file, "--kernel", "gaussian"], "");
+    let out = gwr(&[file, "--kernel", "gaussian", "--neighbours", "7"], "");
     assert_eq!(out.status.code(), Some(0));
     let lines: Vec<&str> = text(&out.stdout).lines().collect();
     assert!(lines[5].contains("households"));
     assert!(lines[5..].iter().all(|l| l.len() == lines[5].len()));
+}
+
+#[test]
+fn the_default_count() {
+    // 42 pantries and two predictors: 7 is more than 2 + 3.
+    let csv = pantries();
+    let named = gwr(&["--neighbours", "7", "-"], &csv);
+    assert!(text(&named.stdout).contains("\nbandwidth  7 neighbours\n"));
+    for words in [&["-"][..], &["--neighbours", "0", "-"]] {
+        assert_eq!(gwr(words, &csv).stdout, named.stdout);
+    }
+    // Of the first ten 2 + 3 is more than 4.
+    let ten: String = csv.lines().take(11).flat_map(|l| [l, "\n"]).collect();
+    let out = gwr(&["--kernel", "gaussian", "-"], &ten);
+    assert!(text(&out.stdout).contains("\nbandwidth  5 neighbours\n"));
 }
 
 #[test]

@@ -25,11 +25,13 @@ pub enum Group {
     Random,
     /// Searches with more observations.
     Searches,
+    /// The default count, around each step that it takes.
+    DefaultCounts,
 }
 
 impl Group {
     /// All groups, in the order of their numbers.
-    pub const ALL: [Group; 8] = [
+    pub const ALL: [Group; 9] = [
         Group::Weights,
         Group::SmallGrid,
         Group::Corners,
@@ -38,6 +40,7 @@ impl Group {
         Group::SafeCrate,
         Group::Random,
         Group::Searches,
+        Group::DefaultCounts,
     ];
 
     /// What it is called.
@@ -51,11 +54,14 @@ impl Group {
             Group::SafeCrate => "safe crate",
             Group::Random => "random",
             Group::Searches => "searches",
+            Group::DefaultCounts => "default counts",
         }
     }
 
-    /// Draws the group's jobs, of a run with so many random ones.
+    /// Draws the group's jobs, of a run with so many random ones. One that asks for the default count comes twice, first with the
+    /// count named that 000 takes by default.
     pub fn draw(self, count: u64, t: &mut impl Take) {
+        let t = &mut Named(t);
         match self {
             Group::Weights => weights(t),
             Group::SmallGrid => grid(t),
@@ -65,6 +71,7 @@ impl Group {
             Group::SafeCrate => safe_crate(t, 24 + count / 40),
             Group::Random => random_jobs(t, count),
             Group::Searches => searches(t),
+            Group::DefaultCounts => default_counts(t),
         }
     }
 }
@@ -79,6 +86,27 @@ pub trait Take {
 
     /// A weight call: kernel, bits of distance and bandwidth, bytes lent.
     fn weight(&mut self, kernel: u64, d: u64, b: u64, room: usize);
+}
+
+/// Hands each job on, and before one that asks for the default count the same job with the count that 000 takes by default.
+struct Named<'a, T>(&'a mut T);
+
+impl<T: Take> Take for Named<'_, T> {
+    fn fit(&mut self, job: &Job) {
+        job.with_default_of_000().iter().for_each(|j| self.0.fit(j));
+        self.0.fit(job);
+    }
+
+    fn safe(&mut self, job: &Job) {
+        job.with_default_of_000()
+            .iter()
+            .for_each(|j| self.0.safe(j));
+        self.0.safe(job);
+    }
+
+    fn weight(&mut self, kernel: u64, d: u64, b: u64, room: usize) {
+        self.0.weight(kernel, d, b, room);
+    }
 }
 
 /// Jobs of the small grid, for each of its shapes and choices, at most.
@@ -203,6 +231,17 @@ fn searches(t: &mut impl Take) {
     for choice in 0..6 {
         let p = [0, 1, 0, 2, 0, 1][choice as usize];
         t.fit(&linear(&mut g, 512, p, choice % 3, 2 + choice / 3));
+    }
+}
+
+/// The default count for each p: every n up to 30, and on both sides of each greater square.
+fn default_counts(t: &mut impl Take) {
+    let mut g = Rng::new(0xDEFA);
+    for p in 0..=7u64 {
+        let squares = (6..=22).flat_map(|r| [r * r - 1, r * r, r * r + 1]);
+        for n in (p + 1..=30).chain(squares).chain([511, 512]) {
+            t.fit(&random(&mut g, n, p, (n + p) % 3, 1).with_default());
+        }
     }
 }
 

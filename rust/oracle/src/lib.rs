@@ -1,5 +1,6 @@
 //! The other side of the comparison: what 000 answers to a job of the byte calls, where 000 has an answer, and what 01 says
-//! where it has none (limits, byte lengths, unknown numbers, output too short).
+//! where it has none (limits, byte lengths, unknown numbers, output too short). 000 has a default count of its own, so it is
+//! handed the count that 02 says an unsearched count 0 becomes ([`default_count`]).
 //!
 //! 000 is taken at build time from the folder of source documents (see build.rs), twice: with 01's steps for exp and ln
 //! ([`steps`]), which is what is compared, and with the platform's ([`platform`]), for times. Without it [`AVAILABLE`] is false.
@@ -27,6 +28,23 @@ pub const FILL: u8 = 0xA5;
 
 /// The bits that every NaN is put out with.
 pub const NAN: u64 = 0x7FF8_0000_0000_0000;
+
+/// The least whole number whose square reaches n.
+fn least_root(n: u64) -> u64 {
+    (0..).find(|r| r * r >= n).expect("n itself does")
+}
+
+/// What an unsearched count 0 becomes, by 02's words alone: the larger of p + 3 and the least whole number whose square reaches n,
+/// then capped at n - 1 and raised to at least 1.
+pub fn default_count(n: u64, p: u64) -> u64 {
+    let chosen = least_root(n).max(p.saturating_add(3));
+    chosen.min(n.saturating_sub(1)).max(1)
+}
+
+/// What it becomes in 000.
+pub fn default_count_of_000(n: u64) -> u64 {
+    least_root(n).max(2).min(n.saturating_sub(1)).max(1)
+}
 
 /// A job as the fit call takes it.
 #[derive(Debug, Clone, PartialEq, Eq)]
@@ -97,9 +115,43 @@ impl Job {
         }
     }
 
+    /// The same with the default count.
+    pub fn with_default(mut self) -> Self {
+        (self.kind, self.bandwidth) = (1, 0);
+        self
+    }
+
     /// Number of observations that the coordinates have.
     pub fn n(&self) -> usize {
         self.coords.len() / 16
+    }
+
+    /// Whether it asks for the default count.
+    fn takes_default(&self) -> bool {
+        (self.kind, self.bandwidth) == (1, 0)
+    }
+
+    /// The bandwidth's bits or count that 000 is handed: a default count is named.
+    fn bandwidth_for_000(&self) -> u64 {
+        match self.takes_default() {
+            true => default_count(self.n() as u64, self.p),
+            false => self.bandwidth,
+        }
+    }
+
+    /// Of a job that asks for the default count: the same with 000's default named.
+    pub fn with_default_of_000(&self) -> Option<Job> {
+        self.takes_default().then(|| Job {
+            bandwidth: default_count_of_000(self.n() as u64),
+            ..self.clone()
+        })
+    }
+
+    /// Whether it asks for the default count, and 000 would take another one.
+    pub fn default_moved(&self) -> bool {
+        let default = self.bandwidth_for_000();
+        self.with_default_of_000()
+            .is_some_and(|job| job.bandwidth != default)
     }
 
     /// The job as `gwrprint` reads it.
@@ -214,15 +266,20 @@ macro_rules! side {
                 include!(concat!(env!("OUT_DIR"), $file));
             }
 
-            /// Runs 000 on a job of right byte lengths and known numbers.
+            /// Runs 000 on a job of right byte lengths and known numbers; it is handed what an unsearched count becomes.
             pub fn fit(job: &Job) -> Fitted {
+                fit_handed(job, job.bandwidth_for_000())
+            }
+
+            /// The same with these bits of a distance, or this count, whatever the job says.
+            pub fn fit_handed(job: &Job, bandwidth: u64) -> Fitted {
                 let (coords, x) = job.places_and_rows();
                 let options = gwr::GwrOptions {
                     kernel: kernel(job.kernel),
                     bandwidth: if job.kind.is_multiple_of(2) {
-                        gwr::GwrBandwidth::Fixed(f64::from_bits(job.bandwidth))
+                        gwr::GwrBandwidth::Fixed(f64::from_bits(bandwidth))
                     } else {
-                        gwr::GwrBandwidth::AdaptiveKnn(job.bandwidth as usize)
+                        gwr::GwrBandwidth::AdaptiveKnn(bandwidth as usize)
                     },
                     optimize_bandwidth: job.kind >= 2,
                 };
@@ -279,6 +336,11 @@ macro_rules! side {
             }
 
             /// Without 000 there is nothing to run.
+            pub fn fit_handed(_: &Job, _: u64) -> Fitted {
+                panic!("{MISSING}")
+            }
+
+            /// Without 000 there is nothing to run.
             pub fn weight(_: u64, _: f64, _: f64) -> f64 {
                 panic!("{MISSING}")
             }
@@ -314,6 +376,48 @@ pub fn expected_weight(kernel: u64, d: u64, b: u64, room: usize) -> (u32, Vec<u8
     };
     out[..8].copy_from_slice(&bits(w).to_le_bytes());
     (number, out)
+}
+
+#[cfg(test)]
+mod default_counts {
+    use super::{default_count, default_count_of_000};
+
+    /// The table that the definition is proved to agree with, by p: the greatest n of each count, from 1 on.
+    fn table() -> Vec<Vec<u64>> {
+        let file = concat!(
+            env!("CARGO_MANIFEST_DIR"),
+            "/../../crates/examples/specs/DefaultCounts.antt"
+        );
+        let text = std::fs::read_to_string(file).expect("the table is there");
+        let (_, text) = text.split_once("lastOfEach =").expect("its definition");
+        let (text, _) = text.split_once("\n\n").expect("its end");
+        let numbers = |row: &str| {
+            let words = row.split(|c: char| !c.is_ascii_digit());
+            words.filter_map(|word| word.parse().ok()).collect()
+        };
+        let mut rows: Vec<Vec<u64>> = text.split("[]").map(numbers).collect();
+        rows.retain(|row| !row.is_empty());
+        rows
+    }
+
+    #[test]
+    fn every_one_is_that_of_the_definition() {
+        let rows = table();
+        assert_eq!(rows.len(), 8);
+        for (p, row) in (0..).zip(&rows) {
+            assert_eq!(row.last(), Some(&512));
+            for n in 1..=512 {
+                let below = row.iter().filter(|last| **last < n).count();
+                assert_eq!(default_count(n, p), below as u64 + 1, "n {n} p {p}");
+            }
+        }
+    }
+
+    #[test]
+    fn without_predictors_it_moved_for_four_alone() {
+        let moved = |n: &u64| default_count(*n, 0) != default_count_of_000(*n);
+        assert_eq!((1..=512).filter(moved).collect::<Vec<_>>(), [4]);
+    }
 }
 
 #[cfg(all(test, gwr_source))]
@@ -368,6 +472,37 @@ mod tests {
         });
         check(13, &|j| j.summary_len = 23);
         check(11, &|j| j.bandwidth = 0);
+    }
+
+    /// A job that asks for the default count.
+    fn by_default(n: u32, p: u32) -> Job {
+        let coords: Vec<f64> = (0..2 * n).map(|i| f64::from(i * i % 13)).collect();
+        let x: Vec<f64> = (0..n * p).map(|i| f64::from(i * i % 7)).collect();
+        let y: Vec<f64> = (0..n).map(f64::from).collect();
+        Job::new(&coords, &x, &y, u64::from(p), (0, 1, 0))
+    }
+
+    #[test]
+    fn the_default_counts_here_and_in_000() {
+        for (n, p, here, there) in [(4, 0, 3.0, 2.0), (10, 2, 5.0, 4.0), (10, 0, 4.0, 4.0)] {
+            let job = by_default(n, p);
+            assert_eq!(fit(&job).bandwidth, here);
+            assert_eq!(steps::fit_handed(&job, 0).bandwidth, there);
+            assert_eq!(job.default_moved(), here != there);
+        }
+    }
+
+    #[test]
+    fn the_count_named_for_000_is_its_default() {
+        for n in 1..=70 {
+            let job = by_default(n, 0);
+            let named = job.with_default_of_000().unwrap();
+            let (own, named) = (steps::fit_handed(&job, 0), fit(&named));
+            assert_eq!((own.number, named.number), (0, 0));
+            assert_eq!(own.bandwidth, named.bandwidth);
+            assert_eq!(own.rows, named.rows);
+        }
+        assert_eq!(listing().with_default_of_000(), None);
     }
 
     #[test]

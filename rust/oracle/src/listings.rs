@@ -148,7 +148,7 @@ mod tests {
         let found = found.map(|e| e.file_name().to_string_lossy().into_owned());
         let found = found.filter(|f| f.ends_with(".job") || f.ends_with(".out"));
         assert_eq!(found.collect::<BTreeSet<_>>(), wanted);
-        assert!(wanted.len() >= 2 * 43, "of 43 jobs some are missing");
+        assert!(wanted.len() >= 2 * 47, "of 47 jobs some are missing");
     }
 
     #[test]

@@ -48,9 +48,15 @@ fn sort(bits: u64) -> String {
     }
 }
 
-/// The kinds that a call is of, with its answer. The first does not depend on the size of the record.
+/// The kinds that a call is of, with its answer. The first does not depend on the size of the record. A job that is solved by a
+/// default count that 000 does not take is of a kind of its own alone: it stands in for no other.
 pub fn kinds(group: Group, job: &Job, answer: &Answer) -> Vec<String> {
     let (name, number) = (group.name(), answer.number);
+    if job.default_moved() && matches!(number, 0 | 14..=17) {
+        return vec![format!(
+            "{name} by a default count that 000 does not take, answered {number}"
+        )];
+    }
     let mut all = vec![format!("{name} answered {number}")];
     if job.kind >= 2 && job.n() == 512 {
         all.push(format!("{name} searched at n = 512, answered {number}"));

@@ -14,6 +14,7 @@ pub chosen-count-spec : {M : Type 1} → statement M
 chosen-count-spec =
     tie.close
     (tie.spec
+    (λ c. search needs)
     (λ c κs. search needs)
     (λ c κs. search needs)
     returns

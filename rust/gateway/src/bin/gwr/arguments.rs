@@ -13,8 +13,9 @@ easting, northing, response, then the predictors (0 to 7). At most 512 observati
 
   --kernel gaussian|bisquare|exponential   how a weight falls with distance (bisquare)
   --distance B      the same bandwidth distance at every location
-  --neighbours K    the distance to the K-th nearest neighbour as bandwidth (0, the default, stands for
-                    a count that grows with the root of the number of observations)
+  --neighbours K    the distance to the K-th nearest neighbour as bandwidth, K at most all others; 0, the
+                    default, stands for the number of predictors and 3 more, or for the root of the
+                    number of observations, rounded up, where that is more
   --search          search the bandwidth with the least AICc; the value of B or K is then ignored
   --csv             rows as comma-separated text in full precision, the summary in lines that begin with #
   --help            this text
