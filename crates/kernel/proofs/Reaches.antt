@@ -8,7 +8,8 @@ use lib.Ieee.Fits.{add-fits, mul-fits, and-l, and-r}
 use lib.Ieee.Scale.{finite}
 use Rattle.real.specs.Reals.{zero64, inf64}
 use Rattle.real.proofs.Values.{untrue}
-use Rattle.real.proofs.SignedOrder.{nonneg, le-tr, nlt→le}
+use Rattle.real.proofs.Cases.{by-truth}
+use Rattle.real.proofs.SignedOrder.{nonneg, le-tr, apart, nlt→le}
 use Rattle.root.specs.Root.{root}
 use Rattle.kernel.specs.declared.GwrKernel.{GwrKernel}
 use Rattle.kernel.specs.declared.GwrKernel.the-variants.{Gaussian, Bisquare, Exponential}
@@ -17,7 +18,7 @@ use Rattle.kernel.specs.Weight.{squaresOf, distanceOf, unusable, weightO
 use Rattle.kernel.specs.Reach.{bisquareReach, reachOf, Reach}
 use Rattle.kernel.proofs.DistanceRange.{square-nonneg}
 use Rattle.kernel.proofs.WeightRange.{usable-of}
-use Rattle.root.proofs.Order.{not-both, either, root-ends, and-false, root-order}
+use Rattle.root.proofs.Order.{root-ends, and-false, root-order}
 
 pub squares-fits : (ax ay bx by : Float) → T (fits binary64 (squaresOf ax ay bx by))
 unfolding squaresOf
@@ -68,15 +69,15 @@ module _ (b : Float) (f : T (finite b)) (p : T (lt zero64 b)) (h : T (le b (root
   past-above : (s : Float) → T (le c s) → T (lt zero64 s)
   unfolding ofBits isNan
   past-above s k =
-      either (lt zero64 s) (λ t. t)
+      by-truth (lt zero64 s) (λ t. t)
       (λ t.
       let low : T (le c zero64) = le-tr c s zero64 k (nlt→le zero64 s tt (number-right c s k) t) in
-      let own : root c ≡ c = root-ends c c-nonneg (and-false (lt zero64 c) (lt c inf64) (subst (λ (z : Bool). T (not z)) (sym (untrue (lt zero64 c) (λ u. not-both zero64 c u low))) tt)) in
-      absurd (not-both zero64 b p (le-tr b c zero64 (subst (λ (z : Float). T (le b z)) own h) low)))
+      let own : root c ≡ c = root-ends c c-nonneg (and-false (lt zero64 c) (lt c inf64) (subst (λ (z : Bool). T (not z)) (sym (untrue (lt zero64 c) (λ u. apart zero64 c u low))) tt)) in
+      absurd (apart zero64 b p (le-tr b c zero64 (subst (λ (z : Float). T (le b z)) own h) low)))
 
   -- the root of no number from c on is below b
   beyond : (s : Float) → T (fits binary64 s) → T (le c s) → lt (root s) b ≡ false
-  beyond s g k = untrue (lt (root s) b) (λ u. not-both (root s) b u (le-tr b (root c) (root s) h (root-order c s (mul-fits binary64 b b) g c-nonneg (above-nonneg s (past-above s k)) k)))
+  beyond s g k = untrue (lt (root s) b) (λ u. apart (root s) b u (le-tr b (root c) (root s) h (root-order c s (mul-fits binary64 b b) g c-nonneg (above-nonneg s (past-above s k)) k)))
 
 -- ---- the Bisquare's
 
@@ -88,11 +89,11 @@ in-use b u = let h = usable-of b u in (and-l (finite b) (lt zero64 b) h, and-r (
 bisquare-reach : (b : Float) → Reach Bisquare b (bisquareReach b)
 unfolding bisquareReach weightOf bisquareFormula
 bisquare-reach b =
-    either (unusable b) (λ u. rw (is-true (unusable b) u) (nowhere Bisquare b))
+    by-truth (unusable b) (λ u. rw (is-true (unusable b) u) (nowhere Bisquare b))
     (λ u.
     let i = in-use b u in
     let e = is-false (unusable b) u in
-    either (le b (root (mul binary64 b b))) (λ h. rw (e, is-true (le b (root (mul binary64 b b))) h) (record { past = λ s f k. rw (e, beyond b (i .0) (i .1) h s f k) }))
+    by-truth (le b (root (mul binary64 b b))) (λ h. rw (e, is-true (le b (root (mul binary64 b b))) h) (record { past = λ s f k. rw (e, beyond b (i .0) (i .1) h s f k) }))
     (λ h. rw (e, is-false (le b (root (mul binary64 b b))) h) (nowhere Bisquare b)))
 
 -- ---- every kernel's

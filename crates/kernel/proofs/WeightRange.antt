@@ -8,7 +8,7 @@ use mathlib.Core.Bool.{Bool, true, false, not, _&&_, _||_, cond}
 use lib.Arith.{le-zero}
 use lib.IntN.{ℤ, pos}
 use lib.Dec.{T, leb, ltb, eqb, ltb→lt, lt→ltb, lit<}
-use lib.Ieee.{Float, nan, inf, fin, binary64, up, down, add, mul, div, sub, neg, lt, le, eq, ofBits, ofInt, round, isNan, fits, unlike}
+use lib.Ieee.{Float, nan, inf, fin, binary64, up, down, add, mul, div, sub, neg, lt, le, eq, ofBits, ofInt, round, fits, unlike}
 use lib.Ieee.Bits.{is-true}
 use lib.Ieee.Fits.{and-l, and-r, div-fits}
 use lib.Ieee.Order.{round-mono}
@@ -17,7 +17,7 @@ use lib.Ieee.Positive.{num, den, den-pos}
 use Rattle.real.specs.Reals.{zero64, one64, magnitude}
 use Rattle.real.specs.Arithmetic.{rounded}
 use Rattle.real.proofs.Closed.{one, half, nought}
-use Rattle.real.proofs.SignedOrder.{sgn, le-tr, neg-anti, natural, nat-fin, nat-sgn, add-mono, mul-opened, div-by, div-smono, mag-of, mag-finite, in-fin, lt→le, le-self, sub-opened, neg-finite, zero-of, zero-over, round-sgn, round-mag, round-below, square-mag, nat-above, lt-of-not-le}
+use Rattle.real.proofs.SignedOrder.{sgn, le-tr, neg-anti, natural, nat-fin, nat-sgn, add-mono, mul-opened, div-by, div-smono, mag-of, mag-finite, in-fin, lt→le, le-self, sub-opened, neg-finite, zero-of, zero-over, round-sgn, round-mag, round-below, square-mag, nat-above, number-left, lt-of-not-le}
 use Rattle.elementary.specs.Exp.{expv}
 use Rattle.elementary.proofs.ExpRange.{exp-in}
 use Rattle.kernel.specs.declared.GwrKernel.{GwrKernel}
@@ -76,12 +76,6 @@ usable-pos nan t = absurd t
 usable-pos (inf s) t = absurd t
 usable-pos (fin true n d) t = absurd t
 usable-pos (fin false n d) t = let h = ltb→lt (0 * down d) (n * up d * 1) t in let k = mul-one (n * up d) in omega arith
-
-not-nan-le : (x y : Float) → T (le x y) → T (not (isNan x))
-unfolding le isNan
-not-nan-le nan y h = absurd h
-not-nan-le (inf s) y h = tt
-not-nan-le (fin s m e) y h = tt
 
 minus-nought : T (le (neg nought) nought) × T (le (neg one) nought)
 unfolding le neg
@@ -243,7 +237,7 @@ in-cond false x y h k = k tt
 
 in-exp : (v : Float) → T (le v nought) → In01 (expv v)
 unfolding ofBits
-in-exp v h = let i = exp-in v (not-nan-le v nought h) h in (i .1, i .2)
+in-exp v h = let i = exp-in v (number-left v nought h) h in (i .1, i .2)
 
 kernel-in : (k : GwrKernel) (d b : Float) → T (usable b) → T (le nought d) → In01 (kernelWeight k d b)
 kernel-in Gaussian d b u h =

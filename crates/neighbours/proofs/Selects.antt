@@ -10,9 +10,10 @@ use lib.Ieee.{Float, nan, binary64, le, lt, fits, isNan, ofBits}
 use lib.Ieee.Bits.{is-true}
 use lib.Ieee.Fits.{and-i, and-l, and-r}
 use Rattle.real.specs.Reals.{zero64, greater, eps64, inf64}
-use Rattle.real.proofs.SignedOrder.{nonneg, nlt→le}
+use Rattle.real.proofs.Cases.{by-truth}
+use Rattle.real.proofs.SignedOrder.{nonneg, apart, nlt→le, number-left}
 use Rattle.root.specs.Root.{root}
-use Rattle.root.proofs.Order.{nonneg-number, root-nonneg, not-both, either, root-order, root-fits, root-above, one-only}
+use Rattle.root.proofs.Order.{nonneg-number, root-nonneg, root-order, root-fits, root-above, one-only}
 use Rattle.kernel.proofs.DistanceRange.{squares-nonneg}
 use Rattle.kernel.proofs.Reaches.{squares-fits, distance-is, above-nonneg}
 use Rattle.selection.specs.Kth.{atMost, fewer, isKth}
@@ -22,7 +23,7 @@ use Rattle.neighbours.specs.Walk.{isOwn, distanceFrom, nearestFrom}
 use Rattle.neighbours.specs.Smallest.{allDistances, kthOf, greatestMet, kthNearest}
 use Rattle.neighbours.specs.Sums.{OwnBelow, others, squaresFrom, sums}
 use Rattle.neighbours.proofs.Inserts.{getD-any}
-use Rattle.neighbours.proofs.Smallest.{number-le, kept-smallest, found-is-kth}
+use Rattle.neighbours.proofs.Smallest.{kept-smallest, found-is-kth}
 use Rattle.neighbours.proofs.Summed.{own-sum, other-sum}
 use Rattle.neighbours.proofs.Amounts.{amount, amount-all, amount-every, amount-length, all-length, by-at-most, by-below}
 
@@ -68,7 +69,7 @@ module _ (coords : List Float) (east north : Float) (own : Own) (n k : ℕ) (ins
   sum-nonneg : (j : ℕ) → j < n → isOwn own j ≡ false → T (nonneg (square j))
   sum-nonneg j h e =
       sum-from-zero coords east north j
-      (number-le (square j) inf64 (subst (λ (z : Float). T (le z inf64)) (other-sum square own n l long j h e) (each j h)))
+      (number-left (square j) inf64 (subst (λ (z : Float). T (le z inf64)) (other-sum square own n l long j h e) (each j h)))
 
   number-at : (j : ℕ) → j < n → isOwn own j ≡ false → T (not (isNan (d j)))
   number-at j h e = rw (root-is coords east north j) (nonneg-number (root (square j)) (root-nonneg (square j) (sum-nonneg j h e)) .0)
@@ -78,7 +79,7 @@ module _ (coords : List Float) (east north : Float) (own : Own) (n k : ℕ) (ins
   lifted j h t = go (isOwn own j) refl
     where
       go : (b : Bool) → isOwn own j ≡ b → T (not b && le (d j) (root v))
-      go true e = absurd (not-both v inf64 q (subst (λ (z : Float). T (le z v)) (own-sum square own n l long j h e) t))
+      go true e = absurd (apart v inf64 q (subst (λ (z : Float). T (le z v)) (own-sum square own n l long j h e) t))
       go false e =
           rw (root-is coords east north j)
           (root-order (square j) v (sum-fits coords east north j) f (sum-nonneg j h e) v-nonneg
@@ -95,8 +96,8 @@ module _ (coords : List Float) (east north : Float) (own : Own) (n k : ℕ) (ins
           let other = e in
           let a-nonneg = sum-nonneg j h other in
           rw (other-sum square own n l long j h other)
-          (either (lt a v) (λ w. w)
-          (λ w. absurd (not-both (root a) (root v) (subst (λ (z : Float). T (lt z (root v))) (root-is coords east north j) u) (root-order v a f (sum-fits coords east north j) v-nonneg a-nonneg (nlt→le a v (nonneg-number a a-nonneg .0) (nonneg-number v v-nonneg .0) w)))))
+          (by-truth (lt a v) (λ w. w)
+          (λ w. absurd (apart (root a) (root v) (subst (λ (z : Float). T (lt z (root v))) (root-is coords east north j) u) (root-order v a f (sum-fits coords east north j) v-nonneg a-nonneg (nlt→le a v (nonneg-number a a-nonneg .0) (nonneg-number v v-nonneg .0) w)))))
 
   enough : m ≤ amount (λ x. le x (root v)) all
   unfolding isKth atMost

@@ -10,13 +10,12 @@ use borrow.Author.Tests.{le-ltb, lt-ltb}
 use lib.Dec.{T, ltb}
 use lib.ListN.{length, take, drop, getD, length-take, take-append-drop, List·getD-append}
 use lib.Seq.{length-take-le, take-all, take-nil, take-take, take-append-le, take-append-add, take-add, drop-at, getD-at, getD-take, getD-drop, getD-append-add}
-use lib.Ieee.{Float, nan, inf, fin, le, lt, isNan}
+use lib.Ieee.{Float, nan, le, lt, isNan}
 use Rattle.real.specs.Fold.{turns, range}
 use Rattle.real.specs.Reals.{zero64, greater, eps64}
-use Rattle.real.proofs.SignedOrder.{le-tr, le-total, nlt→le, here-or-on}
+use Rattle.real.proofs.SignedOrder.{le-tr, le-total, apart, nlt→le, number-left, here-or-on}
 use lib.Ieee.Scale.{finite}
 use Rattle.kernel.proofs.DistanceRange.{distance-number}
-use Rattle.root.proofs.Order.{not-both}
 use Rattle.neighbours.specs.Insert.{rankOf, insert}
 use Rattle.neighbours.specs.declared.Own.{Own}
 use Rattle.neighbours.specs.Walk.{Walk, keep, meet, isOwn, pass, unmet, walkOn, foundBy, distanceFrom, nearestFrom}
@@ -25,12 +24,6 @@ use Rattle.neighbours.proofs.Inserts.{rank-take, rank-within, length-in
 
 abbrev Number : Float → Type 0
 Number x = T (not (isNan x))
-
-pub number-le : (x y : Float) → T (le x y) → Number x
-unfolding le isNan
-number-le nan y h = absurd h
-number-le (inf s) y h = tt
-number-le (fin s m e) y h = tt
 
 le-itself : (x : Float) → Number x → T (le x x)
 le-itself x n = elim (le-total x x n n) [ inl h ↦ h | inr h ↦ h ]
@@ -128,7 +121,7 @@ ins-is x l p e = ap (λ (q : ℕ). take q l ++ x ∷ drop q l) e
 
 module _ (x : Float) (n : Number x) (l : List Float) (up : Ascending l) where
   number-at : (c : ℕ) → c < length l → Number (getD l c nan)
-  number-at c h = number-le (getD l c nan) (getD l c nan) (up .ordered c c (omega arith) h)
+  number-at c h = number-left (getD l c nan) (getD l c nan) (up .ordered c c (omega arith) h)
 
   below-x : (p a : ℕ) → rankOf x l (length l) ≡ p → a < p → p ≤ length l → T (le (getD l a nan) x)
   below-x zero a e h k = absurd (not-suc-le-zero h)
@@ -208,7 +201,7 @@ module _ (x : Float) (n : Number x) (l : List Float) (up : Ascending l) where
       above : lt x (getD l f nan) ≡ true → (j : ℕ) → f ≤ j → j < length l → le (getD l j nan) x ≡ false
       above t j p q =
           false-of (le (getD l j nan) x)
-          (λ (h : T (le (getD l j nan) x)). not-both x (getD l f nan) (subst T (sym t) tt) (le-tr (getD l f nan) (getD l j nan) x (up .ordered f j p q) h))
+          (λ (h : T (le (getD l j nan) x)). apart x (getD l f nan) (subst T (sym t) tt) (le-tr (getD l f nan) (getD l j nan) x (up .ordered f j p q) h))
 
       long : suc f ≤ length l → (b : Bool) → lt x (getD l f nan) ≡ b → keep (suc f) x (take (suc f) l) ≡ take (suc f) (insert x l)
       long h true t =
@@ -219,7 +212,7 @@ module _ (x : Float) (n : Number x) (l : List Float) (up : Ascending l) where
           ∙ cut-low x l f (omega arith) (above t)
       long h false t =
           keep-third (suc f) x (take (suc f) l) (full h) (ap (lt x) (last-is h) ∙ t)
-          ∙ cut-high x l f h (nlt→le x (getD l f nan) n (number-le (getD l f nan) (getD l f nan) (up .ordered f f (omega arith) h)) (subst (λ (b : Bool). T (not b)) (sym t) tt))
+          ∙ cut-high x l f h (nlt→le x (getD l f nan) n (number-left (getD l f nan) (getD l f nan) (up .ordered f f (omega arith) h)) (subst (λ (b : Bool). T (not b)) (sym t) tt))
 
 -- ---- the walk
 pub record Cut (k : ℕ) (all kept : List Float) : Type 0 where

@@ -12,8 +12,9 @@ use lib.Ieee.Fits.{up-pos, down-pos, and-l, and-r}
 use lib.Ieee.Nearest.{div-same}
 use lib.Ieee.Positive.{num, den, den-pos, positive, positive-finite}
 use Rattle.real.specs.Reals.{zero64, inf64}
+use Rattle.real.proofs.Cases.{by-truth}
 use Rattle.real.proofs.Values.{untrue}
-use Rattle.real.proofs.SignedOrder.{nonneg, units-nonneg, nat-above, le-tr, le→sle, nlt→le, lt-not-le, lt-of-not-le}
+use Rattle.real.proofs.SignedOrder.{nonneg, units-nonneg, nat-above, le-tr, le→sle, nlt→le, apart, lt-of-not-le}
 use Rattle.root.specs.Root.{root, rootUnits, nearestRoot, inUnits}
 use Rattle.root.specs.Nearest.{unsigned, NearestRoot}
 use Rattle.root.proofs.Nearest.{root-nearest, not-below, sumNum, middle-low, middle-high, positive-unsigned, above-unsigned}
@@ -45,26 +46,6 @@ nonneg-above (inf true) p = absurd p
 nonneg-above (inf false) p = unfold le in tt
 nonneg-above (fin true m e) p = absurd p
 nonneg-above (fin false m e) p = nat-above (fin false m e) tt
-
--- ---- less and at most
-pub not-both : (x y : Float) → T (lt x y) → T (le y x) → ⊥
-unfolding lt le
-not-both nan y h k = h
-not-both (inf s) nan h k = h
-not-both (inf true) (inf true) h k = h
-not-both (inf true) (inf false) h k = k
-not-both (inf false) (inf t) h k = h
-not-both (inf true) (fin t n d) h k = k
-not-both (inf false) (fin t n d) h k = h
-not-both (fin s m e) nan h k = h
-not-both (fin s m e) (inf true) h k = h
-not-both (fin s m e) (inf false) h k = k
-not-both (fin s m e) (fin t n d) h k = lt-not-le (fin s m e) (fin t n d) tt tt h k
-
--- by cases of a test
-pub either : {A : Type 0} (b : Bool) → (T b → A) → (T (not b) → A) → A
-either true f g = f tt
-either false f g = g tt
 
 not-above-infinity : (x : Float) → T (not (lt inf64 x))
 unfolding lt
@@ -114,7 +95,7 @@ cross (fin false m e) (fin false n d) p q h = let k = le→sle (fin false m e) (
 module _ (x y : Float) (fx : T (fits binary64 x)) (fy : T (fits binary64 y)) where
   -- both above zero and below infinity
   order-within : T (lt zero64 x) → T (lt x inf64) → T (lt zero64 y) → T (lt y inf64) → T (le x y) → T (le (root x) (root y))
-  order-within a b c d l = either (le (root x) (root y)) (λ t. t) (λ f. absurd (go f))
+  order-within a b c d l = by-truth (le (root x) (root y)) (λ t. t) (λ f. absurd (go f))
     where
       one : NearestRoot x (root x)
       one = root-nearest x fx a b
@@ -142,7 +123,7 @@ module _ (x y : Float) (fx : T (fits binary64 x)) (fy : T (fits binary64 y)) whe
   -- the root keeps order
   pub root-order : T (nonneg x) → T (nonneg y) → T (le x y) → T (le (root x) (root y))
   unfolding ofBits isNan
-  root-order p q l = either (lt zero64 x) (λ a. either (lt y inf64) (λ d. inside a d) high) low
+  root-order p q l = by-truth (lt zero64 x) (λ a. by-truth (lt y inf64) (λ d. inside a d) high) low
     where
       low : T (not (lt zero64 x)) → T (le (root x) (root y))
       low f =
@@ -156,13 +137,13 @@ module _ (x y : Float) (fx : T (fits binary64 x)) (fy : T (fits binary64 y)) whe
 
       inside : T (lt zero64 x) → T (lt y inf64) → T (le (root x) (root y))
       inside a d =
-          either (lt x inf64)
-          (λ b. either (lt zero64 y) (λ c. order-within a b c d l) (λ f. absurd (not-both zero64 x a (le-tr x y zero64 l (nlt→le zero64 y tt (nonneg-number y q .0) f)))))
-          (λ f. absurd (not-both y inf64 d (le-tr inf64 x y (nlt→le x inf64 (nonneg-number x p .0) tt f) l)))
+          by-truth (lt x inf64)
+          (λ b. by-truth (lt zero64 y) (λ c. order-within a b c d l) (λ f. absurd (apart zero64 x a (le-tr x y zero64 l (nlt→le zero64 y tt (nonneg-number y q .0) f)))))
+          (λ f. absurd (apart y inf64 d (le-tr inf64 x y (nlt→le x inf64 (nonneg-number x p .0) tt f) l)))
 
 -- ---- the root of a binary64 is one, and that of a number above zero is above zero
 pub root-fits : (x : Float) → T (fits binary64 x) → T (nonneg x) → T (fits binary64 (root x))
-root-fits x f p = either (lt zero64 x && lt x inf64) (λ t. root-nearest x f (and-l (lt zero64 x) (lt x inf64) t) (and-r (lt zero64 x) (lt x inf64) t) .held) (λ t. rw (root-ends x p (is-false (lt zero64 x && lt x inf64) t)) f)
+root-fits x f p = by-truth (lt zero64 x && lt x inf64) (λ t. root-nearest x f (and-l (lt zero64 x) (lt x inf64) t) (and-r (lt zero64 x) (lt x inf64) t) .held) (λ t. rw (root-ends x p (is-false (lt zero64 x && lt x inf64) t)) f)
 
 above-none : (x : Float) → T (positive x) → T (lt zero64 x)
 unfolding lt ofBits
