@@ -11,6 +11,7 @@ ghost use Rattle.neighbours.specs.Bandwidth.{localBandwidthDistance};
 use setup::GwrBandwidth;
 
 mod walk;
+
 pub use walk::Walker;
 pub use walk::begin;
 pub use walk::found_by;
