@@ -2,7 +2,7 @@
 use mathlib.Core.Path.{_≡_, refl, sym, ap, _∙_, subst}
 use mathlib.Core.Bool.{Bool, true, false, not, cond}
 use mathlib.Core.Logic.{_⊎_, inl, inr}
-use mathlib.Core.List.{List, [], _∷_, _++_, List·Permᴰ, Permᴰ·middle}
+use mathlib.Core.List.{List, _∷_, _++_, List·Permᴰ, Permᴰ·middle}
 use Prim.Native.Nat.{ℕ, zero, suc, _+_, _-_, _≤_, _<_}
 use native.Mathlib.Nat.{not-suc-le-zero, eq-or-lt-of-le}
 use native.Mathlib.Omega.{arith}

@@ -1,7 +1,7 @@
 -- What a walk gives is 01's bandwidth: the k-th smallest of all distances in order, by the root of the k-th smallest sum of squares. Assumes nothing.
 use mathlib.Core.Path.{_≡_, refl, sym, ap, _∙_, subst}
 use mathlib.Core.Bool.{Bool, true, false, not, cond, _&&_}
-use mathlib.Core.Logic.{_⊎_, inl, inr}
+use mathlib.Core.Logic.{inl, inr}
 use mathlib.Core.List.{List, [], _∷_, List·Permᴰ, List·Permᴰ·nil, List·Permᴰ·cons, List·Permᴰ·trans}
 use Prim.Native.Nat.{ℕ, zero, suc, _+_, _-_, _*_, _≤_, _<_, min}
 use native.Mathlib.Nat.{not-suc-le-zero, min-eq-left, min-eq-right}
@@ -145,16 +145,16 @@ module _ (coords : List Float) (east north : Float) (own : Own) (n : ℕ) (e : T
   as-many : length l ≡ length all
   as-many = sym (amount-length l) ∙ amount-met (λ x. true) own s n ∙ sym (amount-all (λ x. true) own d n) ∙ amount-length all
 
-  both : (b c b' c' : Bool) → (T c → T c') → b ≡ b' → T (b && c) → T (b' && c')
-  both true c b' c' h i t = subst (λ (z : Bool). T (z && c')) i (h t)
-  both false c b' c' h i t = absurd t
+  behind : (b c d : Bool) → (T c → T d) → T (b && c) → T (b && d)
+  behind true c d h t = h t
+  behind false c d h t = absurd t
 
   -- every distance in order is a binary64 from 0 up
   all-from-zero : (c : ℕ) → c < length all → T (fromZero (getD all c nan))
   all-from-zero c h =
       let a = amount-all fromZero own d n in
       let b = amount-all (λ x. true) own d n in
-      let k = tally-mono (λ j. not (isOwn own j) && true) (λ j. not (isOwn own j) && fromZero (d j)) n (λ j i t. both (not (isOwn own j)) true (not (isOwn own j)) (fromZero (d j)) (λ _. distance-ok j i) refl t) in
+      let k = tally-mono (λ j. not (isOwn own j) && true) (λ j. not (isOwn own j) && fromZero (d j)) n (λ j i t. behind (not (isOwn own j)) true (fromZero (d j)) (λ _. distance-ok j i) t) in
       amount-every fromZero all (omega (arith, amount-length all)) c h
 
   -- ---- a sum that is the m-th smallest: its root is the m-th smallest distance
@@ -167,7 +167,7 @@ module _ (coords : List Float) (east north : Float) (own : Own) (n : ℕ) (e : T
     lifted =
         let a = amount-met (λ x. le x v) own s n in
         let b = amount-all (λ x. le x r) own d n in
-        let c = tally-mono (λ j. not (isOwn own j) && le (s j) v) (λ j. not (isOwn own j) && le (d j) r) n (λ j h u. both (not (isOwn own j)) (le (s j) v) (not (isOwn own j)) (le (d j) r) (up j h) refl u) in
+        let c = tally-mono (λ j. not (isOwn own j) && le (s j) v) (λ j. not (isOwn own j) && le (d j) r) n (λ j h u. behind (not (isOwn own j)) (le (s j) v) (le (d j) r) (up j h) u) in
         omega arith
       where
         up : (j : ℕ) → j < n → T (le (s j) v) → T (le (d j) r)
@@ -178,7 +178,7 @@ module _ (coords : List Float) (east north : Float) (own : Own) (n : ℕ) (e : T
     lowered =
         let a = amount-met (λ x. lt x v) own s n in
         let b = amount-all (λ x. lt x r) own d n in
-        let c = tally-mono (λ j. not (isOwn own j) && lt (d j) r) (λ j. not (isOwn own j) && lt (s j) v) n (λ j h u. both (not (isOwn own j)) (lt (d j) r) (not (isOwn own j)) (lt (s j) v) (down j h) refl u) in
+        let c = tally-mono (λ j. not (isOwn own j) && lt (d j) r) (λ j. not (isOwn own j) && lt (s j) v) n (λ j h u. behind (not (isOwn own j)) (lt (d j) r) (lt (s j) v) (down j h) u) in
         omega arith
       where
         down : (j : ℕ) → j < n → T (lt (d j) r) → T (lt (s j) v)

@@ -7,10 +7,9 @@ use Prim.Native.Nat.{ℕ, suc, _+_, _-_, _*_, _≤_, _<_}
 use native.Mathlib.Numerals.{add-one}
 use native.Mathlib.Omega.{arith}
 use lib.Dec.{T, eqb}
-use lib.ListN.{length, take, drop, getD, set, length-append, length-drop, length-set, take-append-drop}
-use lib.Seq.{length-take-le, length-front, take-at, drop-at, drop-drop, set-split, append-snoc}
-use lib.Ieee.{Float, lt}
-use lib.Ieee.Bits.{is-true}
+use lib.ListN.{length, take, drop, set, length-append, length-set, take-append-drop}
+use lib.Seq.{length-take-le, take-at, drop-at, drop-drop, set-split, append-snoc, getD-take}
+use lib.Ieee.{Float, nan, lt}
 use Rattle.real.specs.Fold.{range}
 use Rattle.real.specs.Reals.{zero64, greater, eps64}
 use Rattle.real.proofs.Fold.{Range, none, more, done, split, related}
@@ -27,6 +26,28 @@ use Rattle.neighbours.specs.Walk.{Walk, unmet, meet, isOwn, pass, walkOn
 pub taken-up : (own : Own) (s : ℕ → Float) (a b c : ℕ) (w : Walk) → a ≤ b → b ≤ c → walkOn own s b c (walkOn own s a b w) ≡ walkOn own s a c w
 unfolding walkOn
 taken-up own s a b c w h g = split (pass own s) w a b c h g
+
+-- ---- stopped after m pantries it gives the bandwidth among those alone, whatever is behind them
+module _ (coords : List Float) (east north : Float) (own : Own) (k : ℕ) where
+  abbrev s : ℕ → Float
+  s = squaresFrom coords east north
+
+  alone : (m j : ℕ) → j < m → s j ≡ squaresFrom (take (2 * m) coords) east north j
+  unfolding squaresFrom
+  alone m j h = rw (getD-take (2 * m) coords (2 * j) nan (omega arith), getD-take (2 * m) coords (2 * j + 1) nan (omega arith))
+
+  pass-alone : (m j : ℕ) (w v : Walk) → j < m → w ≡ v → pass own s j w ≡ pass own (squaresFrom (take (2 * m) coords) east north) j v
+  unfolding pass
+  pass-alone m j w v h e = rw (e, alone m j h)
+
+  pub stopped : (m : ℕ) → foundBy k (walkOn own s 0 m unmet) ≡ nearestFrom (take (2 * m) coords) m east north own k
+  unfolding nearestFrom walkOn
+  stopped m = ap (foundBy k) (related (pass own s) (pass own (squaresFrom (take (2 * m) coords) east north)) 0 m (λ w v. w ≡ v) (pass-alone m) unmet unmet (omega arith) refl)
+
+  -- and taken up again to n that among n, as an unbroken walk does
+  pub resumed : (m n : ℕ) → m ≤ n → foundBy k (walkOn own s m n (walkOn own s 0 m unmet)) ≡ nearestFrom coords n east north own k
+  unfolding nearestFrom
+  resumed m n h = ap (foundBy k) (taken-up own s 0 m n unmet (omega arith) h)
 
 -- ---- the own pantry, by whether there is one
 module _ {own : Own} where

@@ -1,7 +1,7 @@
 -- The m-th smallest number: an equal one is it too, no other is, and `kthSmallest` is it where there is one. Assumes nothing.
 use mathlib.Core.Path.{_≡_, refl, sym, ap, _∙_, subst}
-use mathlib.Core.Bool.{Bool, true, false, not, cond, _&&_}
-use mathlib.Core.Logic.{_⊎_, inl, inr}
+use mathlib.Core.Bool.{Bool, true, false, not, cond}
+use mathlib.Core.Logic.{inl, inr}
 use mathlib.Core.List.{List}
 use Prim.Native.Nat.{ℕ, zero, suc, _+_, _-_, _≤_, _<_}
 use native.Mathlib.Nat.{not-suc-le-zero, eq-or-lt-of-le}
@@ -14,7 +14,7 @@ use lib.Ieee.{Float, nan, le, lt, isNan}
 use lib.Ieee.Fits.{and-l, and-r}
 use Rattle.real.specs.Fold.{turns, range}
 use Rattle.real.proofs.Fold.{related}
-use Rattle.real.proofs.SignedOrder.{le-tr, le-total, apart, nlt→le, lt→le, number-left, number-right}
+use Rattle.real.proofs.SignedOrder.{le-tr, apart, nlt→le, lt→le, number-left, number-right}
 use Rattle.selection.specs.Kth.{tally, atMost, fewer, isKth, kthStep, kthSmallest}
 use Rattle.selection.proofs.Tallies.{tally-mono, tally-more, tally-same, tally-most}
 
@@ -22,9 +22,6 @@ use Rattle.selection.proofs.Tallies.{tally-mono, tally-more, tally-same
 pub record Level (x y : Float) : Type 0 where
   pub up : T (le x y)
   pub down : T (le y x)
-
-pub level-back : {x y : Float} → Level x y → Level y x
-level-back e = record { up = e .down; down = e .up }
 
 by-cases : {A : Type 0} (b : Bool) → (T b → A) → (T (not b) → A) → A
 by-cases true f g = f tt
