@@ -3,14 +3,14 @@ use mathlib.Core.Path.{_≡_, refl, sym, ap, _∙_, subst}
 use mathlib.Core.Bool.{Bool, true, false, cond}
 use mathlib.Core.Logic.{_⊎_, inl, inr}
 use mathlib.Core.List.{List, [], _∷_, _++_}
-use Prim.Native.Nat.{ℕ, suc, _+_, _-_, _*_, _≤_, _<_}
+use Prim.Native.Nat.{ℕ, zero, suc, _+_, _-_, _*_, _≤_, _<_}
 use native.Mathlib.Numerals.{add-one}
 use native.Mathlib.Omega.{arith}
 use lib.Dec.{T, eqb}
 use lib.ListN.{length, take, drop, set, length-append, length-set, take-append-drop}
 use lib.Seq.{length-take-le, take-at, drop-at, drop-drop, set-split, append-snoc, getD-take}
 use lib.Ieee.{Float, nan, lt}
-use Rattle.real.specs.Fold.{range}
+use Rattle.real.specs.Fold.{turns, range}
 use Rattle.real.specs.Reals.{zero64, greater, eps64}
 use Rattle.real.proofs.Fold.{Range, none, more, done, split, related}
 use Rattle.root.specs.Root.{root}
@@ -86,6 +86,15 @@ pass-few own s j w = go (isOwn own j)
     go : (b : Bool) → (length (w .sums) ≤ length (cond b w (meet (s j) w) .sums)) × (length (cond b w (meet (s j) w) .sums) ≤ length (w .sums) + 1)
     go true = (omega arith, omega arith)
     go false = let e = length-append (w .sums) (s j ∷ []) in (omega arith, omega arith)
+
+-- no more are met than there are
+pub walk-few : (own : Own) (s : ℕ → Float) (a b : ℕ) (w : Walk) → length (walkOn own s a b w .sums) ≤ length (w .sums) + (b - a)
+unfolding walkOn range
+walk-few own s a b w = go (b - a)
+  where
+    go : (n : ℕ) → length (turns (pass own s) a n w .sums) ≤ length (w .sums) + n
+    go zero = omega arith
+    go (suc n) = omega (arith, pass-few own s (a + n) (turns (pass own s) a n w) .1, go n)
 
 -- ---- what a buffer holds
 module _ {w : Walk} {entry exit : List Float} {met : ℕ} {g : Float} (r : Holds w entry exit met g) where
