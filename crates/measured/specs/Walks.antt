@@ -14,16 +14,16 @@ use Rattle.neighbours.specs.Walk.{Walk, unmet, walkOn, foundBy, squaresFrom}
 unfoldable pub ownBy : ℕ → ℕ → Own
 ownBy i n = cond (ltb i n) (At i) Nobody
 
--- what is seen of it: the bandwidth where it is stopped, the bandwidth at its end, and there the greatest, how many were met, and the sum in place `at`, 0 where there is none
-unfoldable pub seenOf : Walk → Walk → ℕ → ℕ → List Float → List Float
-seenOf v w k at l = set (set (set (set (set l 0 (foundBy k v)) 1 (foundBy k w)) 2 (w .greatest)) 3 (fromCount (length (w .sums)))) 4 (getD (w .sums) at zero64)
+-- what is seen of its end: the bandwidth for a count k, the greatest sum, how many were met, and the sum in place `at`, 0 where there is none
+unfoldable pub endOf : Walk → ℕ → ℕ → List Float → List Float
+endOf w k at l = set (set (set (set l 1 (foundBy k w)) 2 (w .greatest)) 3 (fromCount (length (w .sums)))) 4 (getD (w .sums) at zero64)
 
--- the walk from (east, north) over the first m of n pantries, and then over the others
+-- the walk from (east, north) over the first m of n pantries, the bandwidth there, and then the others
 unfoldable pub walksOf : List Float → ℕ → Float → Float → Own → ℕ → ℕ → ℕ → List Float → List Float
 walksOf coords n east north own m k at l =
     let s = squaresFrom coords east north in
     let v = walkOn own s 0 m unmet in
-    seenOf v (walkOn own s m n v) k at l
+    endOf (walkOn own s m n v) k at (set l 0 (foundBy k v))
 
 -- the answer, 1, and what is seen; 0 and nothing where there are more than 512 pantries, or fewer than m
 unfoldable pub askedOf : List Float → Float → Float → ℕ → ℕ → ℕ → ℕ → List Float → ℕ × List Float

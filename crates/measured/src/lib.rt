@@ -9,7 +9,8 @@ ghost use Rattle.root.specs.Root.{root};
 ghost use Rattle.elementary.specs.Exp.{expv};
 ghost use Rattle.setup.specs.Data.{dataOf};
 ghost use Rattle.measured.specs.Turns.{kernelBy, playOf, turnsOf};
-ghost use Rattle.measured.specs.Walks.{ownBy, walksOf, askedOf};
+ghost use Rattle.neighbours.specs.Walk.{walkIn};
+ghost use Rattle.measured.specs.Walks.{ownBy, endOf, walksOf, askedOf};
 use kernel::GwrKernel;
 use neighbours::Own;
 use neighbours::Walker;
@@ -118,6 +119,17 @@ fn sum_at(w: Walker, sums: &[f64; 512], at: usize) -> f64
     0.0
 }
 
+// What is seen of a walk's end.
+fn see(w: Walker, sums: &[f64; 512], k: usize, at: usize, seen: &mut [f64; 5])
+    requires { ⌜ (w .met ≤ 512) × (length (now sums) ≡ 512) ⌝ }
+    ensures { λ _. ⌜ now (seen .exit) ≡ endOf (walkIn (now (sums .entry)) (w .met) (w .greatest)) k at (now (seen .entry)) ⌝ }
+{
+    seen[1] = neighbours::found_by(w, sums, k);
+    seen[2] = w.greatest;
+    seen[3] = real::from_count(w.met);
+    seen[4] = sum_at(w, sums, at);
+}
+
 // A walk from (east, north) over the first m of n pantries, asked for k there, and then over the others, asked again.
 fn walks(
     coords: &[f64],
@@ -146,10 +158,7 @@ fn walks(
     );
     seen[0] = neighbours::found_by(first, &sums, k);
     let whole = neighbours::walk_on(first, coords, m, n, east, north, own, &mut sums);
-    seen[1] = neighbours::found_by(whole, &sums, k);
-    seen[2] = whole.greatest;
-    seen[3] = real::from_count(whole.met);
-    seen[4] = sum_at(whole, &sums, at);
+    see(whole, &sums, k, at, seen);
 }
 
 // The same of the pantries that the coordinates have; an own number from their number on is nobody's. Answers 1, or 0 where they are

@@ -8,7 +8,7 @@ use native.Mathlib.Nat.{not-suc-le-zero, min-eq-left, min-eq-right}
 use native.Mathlib.Omega.{arith}
 use borrow.Author.Tests.{le-leb, lt-ltb}
 use lib.Dec.{T, leb, ltb, leb→le, ltb→lt}
-use lib.ListN.{length, getD}
+use lib.ListN.{length, getD, List·getD-eq-default}
 use lib.Ieee.{Float, nan, binary64, le, lt, fits}
 use lib.Ieee.Bits.{is-true}
 use lib.Ieee.Fits.{and-i, and-l, and-r}
@@ -67,14 +67,10 @@ module _ (own : Own) (d : ℕ → Float) (m : ℕ) (numbers : (j : ℕ) → j < 
   all-up = kept (insertStep own d) 0 m Ascending one-up [] (omega arith) record { ordered = λ a b h k. absurd (not-suc-le-zero k) }
 
 -- ---- what stands at a place, whatever stands for none
-getD-any : (l : List Float) (i : ℕ) (a b : Float) → i < length l → getD l i a ≡ getD l i b
+pub getD-any : (l : List Float) (i : ℕ) (a b : Float) → i < length l → getD l i a ≡ getD l i b
 getD-any [] i a b h = absurd (not-suc-le-zero h)
 getD-any (x ∷ l) zero a b h = refl
 getD-any (x ∷ l) (suc i) a b h = getD-any l i a b (omega arith)
-
-getD-none : (l : List Float) (i : ℕ) (a : Float) → length l ≤ 0 → getD l i a ≡ a
-getD-none [] i a h = refl
-getD-none (x ∷ l) i a h = absurd (not-suc-le-zero h)
 
 -- ---- the k-th smallest, by amounts
 module _ (l : List Float) (k : ℕ) (v : Float) where
@@ -261,7 +257,7 @@ module _ (coords : List Float) (east north : Float) (own : Own) (n : ℕ) (e : T
       let at : zero64 ≡ chosen k = sym (top .none h) ∙ is in
       record {
         from-zero = subst (λ (x : Float). T (fromZero x)) is (top .from-zero);
-        kth = getD-none all (min k (length all) - 1) zero64 (omega (arith, as-many)) ∙ zero-root ∙ ap root at;
+        kth = List·getD-eq-default all zero64 (omega (arith, as-many)) ∙ zero-root ∙ ap root at;
       }
 
   the-chosen : (k : ℕ) → 1 ≤ k → Chosen k
