@@ -54,7 +54,7 @@ struct Bracket {
     below_hi: f64,
 }
 
-// The bracket of n numbers from 0 to top.
+// The bracket of n numbers from 0 to top, with a little more, so that top is below its end.
 fn whole(n: usize, top: f64) -> Bracket
     requires { ⌜ n ≤ 512 ⌝ }
 {
@@ -122,8 +122,8 @@ fn cut(x: f64, hi: f64) -> f64 {
     if x < hi { x } else { 0.0 }
 }
 
-// The greatest of s that is below hi, of the first n and up to three more, and 0 where none is; four at a time, since each of them
-// waits for the one before.
+// The greatest of the first n of s that is below hi, and 0 where none is. Four at a time, since each waits for the one before; so up
+// to three numbers behind them are looked at as well, which may cost time and no more.
 fn greatest_below(s: &[f64; 512], n: usize, hi: f64) -> f64
     requires { ⌜ n ≤ 512 ⌝ }
 {
