@@ -143,6 +143,29 @@ fn crowded() -> Vec<Place> {
     (0..40).map(spot).collect()
 }
 
+/// Every way to put up to four pantries on six spots.
+#[test]
+fn every_short_walk() {
+    let spots = [
+        (0.0, 0.0),
+        (1.0, 0.0),
+        (2.0, 0.0),
+        (0.0, 1.0),
+        (1.0, 1.0),
+        (-1.0, 2.5),
+    ];
+    for n in 1..=4 {
+        for number in 0..6usize.pow(n) {
+            let pantries: Vec<Place> = (0..n).map(|j| spots[number / 6usize.pow(j) % 6]).collect();
+            for start in starts(&pantries) {
+                for k in 1..=5 {
+                    every_split(&pantries, start, k);
+                }
+            }
+        }
+    }
+}
+
 #[test]
 fn every_split_point_of_forty_pantries() {
     let pantries = crowded();
