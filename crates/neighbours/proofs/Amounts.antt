@@ -12,9 +12,9 @@ use lib.Seq.{take-suc, take-length}
 use lib.Ieee.{Float, nan, le, lt, isNan}
 use lib.Ieee.Bits.{is-true}
 use Rattle.real.specs.Fold.{turns, range}
+use Rattle.real.proofs.Cases.{by-truth}
 use Rattle.real.proofs.Values.{untrue}
 use Rattle.real.proofs.SignedOrder.{le-tr, apart, nlt→le, number-left}
-use Rattle.root.proofs.Order.{either}
 use Rattle.selection.specs.Kth.{tallyStep, tally}
 use Rattle.selection.proofs.Tallies.{tally-turns}
 use Rattle.neighbours.specs.Insert.{rankOf, insert}
@@ -172,7 +172,7 @@ module _ (l : List Float) (up : Ascending l) (f : ℕ) (h : f < length l) (r : F
   x = getD l f nan
 
   pub by-at-most : f < amount (λ y. le y r) l → T (le x r)
-  by-at-most k = either (le x r) (λ t. t) (λ t. absurd (none-above t))
+  by-at-most k = by-truth (le x r) (λ t. t) (λ t. absurd (none-above t))
     where
       none-above : T (not (le x r)) → ⊥
       none-above t =
@@ -180,7 +180,7 @@ module _ (l : List Float) (up : Ascending l) (f : ℕ) (h : f < length l) (r : F
           (omega (arith, amount-upto (λ y. le y r) l f (λ j a b. untrue (le (getD l j nan) r) (λ u. T-not (le x r) t (le-tr x (getD l j nan) r (up .ordered f j a b) u)))))
 
   pub by-below : amount (λ y. lt y r) l ≤ f → T (le r x)
-  by-below k = nlt→le x r (number-left x x (up .ordered f f (omega arith) h)) n (either (not (lt x r)) (λ t. t) (λ t. absurd (all-below t)))
+  by-below k = nlt→le x r (number-left x x (up .ordered f f (omega arith) h)) n (by-truth (not (lt x r)) (λ t. t) (λ t. absurd (all-below t)))
     where
       twice : (b : Bool) → T (not (not b)) → T b
       twice true u = tt
@@ -190,7 +190,7 @@ module _ (l : List Float) (up : Ascending l) (f : ℕ) (h : f < length l) (r : F
       lower j a t =
           let y = getD l j nan in
           let under : T (le y x) = up .ordered j f (omega arith) h in
-          either (lt y r) (λ u. u) (λ u. absurd (apart x r t (le-tr r y x (nlt→le y r (number-left y x under) n u) under)))
+          by-truth (lt y r) (λ u. u) (λ u. absurd (apart x r t (le-tr r y x (nlt→le y r (number-left y x under) n u) under)))
 
       all-below : T (not (not (lt x r))) → ⊥
       all-below t = not-suc-le-zero {n = 0} (omega (arith, amount-from (λ y. lt y r) l (suc f) (omega arith) (λ j a. is-true (lt (getD l j nan) r) (lower j a (twice (lt x r) t)))))

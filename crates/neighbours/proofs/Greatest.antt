@@ -14,12 +14,13 @@ use lib.Ieee.Fits.{and-l, and-r}
 use Rattle.real.specs.Reals.{zero64, greater}
 use Rattle.real.proofs.Fold.{kept, related}
 use Rattle.real.proofs.Values.{untrue}
-use Rattle.real.proofs.SignedOrder.{nonneg, le-tr, le-total, apart, nlt→le, lt→le, here-or-on}
+use Rattle.real.proofs.SignedOrder.{nonneg, le-tr, apart, nlt→le, lt→le, here-or-on}
 use Rattle.root.specs.Root.{root}
 use Rattle.root.proofs.Order.{nonneg-number, nonneg-above, root-nonneg, root-order, root-fits, one-only}
 use Rattle.neighbours.specs.declared.Own.{Own}
 use Rattle.neighbours.specs.Walk.{Walk, unmet, meet, isOwn, pass, walkOn}
 use Rattle.neighbours.specs.Smallest.{greatStep, greatestMet}
+use Rattle.neighbours.proofs.Inserts.{le-itself}
 use Rattle.neighbours.proofs.Amounts.{amount, amount-append, amount-most, amount-mono}
 
 -- a binary64 from 0 up
@@ -34,7 +35,7 @@ module _ (x : Float) (t : T (fromZero x)) where
   above = and-r (fits binary64 x) (nonneg x) t
 
   le-own : T (le x x)
-  le-own = let n = nonneg-number x above .0 in elim (le-total x x n n) [ inl h ↦ h | inr h ↦ h ]
+  le-own = le-itself x (nonneg-number x above .0)
 
   not-below-zero : lt x zero64 ≡ false
   unfolding ofBits

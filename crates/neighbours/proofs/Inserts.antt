@@ -17,7 +17,7 @@ use Rattle.neighbours.specs.Smallest.{Ascending}
 abbrev pub Number : Float → Type 0
 Number x = T (not (isNan x))
 
-le-itself : (x : Float) → Number x → T (le x x)
+pub le-itself : (x : Float) → Number x → T (le x x)
 le-itself x n = elim (le-total x x n n) [ inl h ↦ h | inr h ↦ h ]
 
 -- ---- the place

@@ -7,24 +7,25 @@ use Prim.Native.Nat.{ℕ, zero, suc, _+_, _-_, _*_, _≤_, _<_, min}
 use native.Mathlib.Nat.{not-suc-le-zero, min-eq-left, min-eq-right}
 use native.Mathlib.Omega.{arith}
 use borrow.Author.Tests.{le-leb, lt-ltb}
-use lib.Dec.{T, leb, ltb, leb→le, ltb→lt}
+use lib.Dec.{T, leb, ltb}
 use lib.ListN.{length, getD, List·getD-eq-default}
 use lib.Ieee.{Float, nan, binary64, le, lt, fits}
 use lib.Ieee.Bits.{is-true}
-use lib.Ieee.Fits.{and-i, and-l, and-r}
+use lib.Ieee.Fits.{and-i}
 use lib.Ieee.Scale.{finite}
 use Rattle.real.specs.Fold.{turns, range}
 use Rattle.real.specs.Reals.{zero64, greater, eps64}
 use Rattle.real.proofs.Fold.{kept}
+use Rattle.real.proofs.Cases.{by-truth}
 use Rattle.real.proofs.Values.{untrue}
 use Rattle.real.proofs.SignedOrder.{nonneg, apart, nlt→le, here-or-on}
 use Rattle.root.specs.Root.{root}
-use Rattle.root.proofs.Order.{either, nonneg-number, root-nonneg, root-order, root-fits, above-root, one-only}
+use Rattle.root.proofs.Order.{nonneg-number, root-nonneg, root-order, root-fits, above-root, one-only}
 use Rattle.kernel.proofs.DistanceRange.{squares-from-zero}
 use Rattle.kernel.proofs.Reaches.{squares-fits, distance-is}
 use Rattle.selection.specs.Kth.{atMost, fewer, isKth, kthSmallest}
 use Rattle.selection.proofs.Tallies.{tally-mono}
-use Rattle.selection.proofs.Kths.{Found, one, none, kth-found, kth-none}
+use Rattle.selection.proofs.Kths.{kth-enough, kth-below, Found, one, none, kth-found, kth-none}
 use Rattle.neighbours.specs.Insert.{insert}
 use Rattle.neighbours.specs.declared.Own.{Own}
 use Rattle.neighbours.specs.Walk.{Walk, unmet, isOwn, walkOn, widthOf, foundBy, squaresFrom, distanceFrom, nearestFrom}
@@ -89,13 +90,11 @@ module _ (l : List Float) (k : ℕ) (v : Float) where
       (and-i (leb k (amount (λ x. le x v) l)) (ltb (amount (λ x. lt x v) l) k) (subst T (sym (le-leb k (amount (λ x. le x v) l) h)) tt) (subst T (sym (lt-ltb (amount (λ x. lt x v) l) k g)) tt))
 
   module _ (is : T (isKth l (length l) k v)) where
-    kth-enough : k ≤ amount (λ x. le x v) l
-    unfolding isKth
-    kth-enough = let a = leb→le k (atMost l (length l) v) (and-l (leb k (atMost l (length l) v)) (ltb (fewer l (length l) v) k) is) in omega (arith, at-most-is)
+    enough-met : k ≤ amount (λ x. le x v) l
+    enough-met = omega (arith, at-most-is, kth-enough l (length l) k v is)
 
-    kth-few : amount (λ x. lt x v) l < k
-    unfolding isKth
-    kth-few = let a = ltb→lt (fewer l (length l) v) k (and-r (leb k (atMost l (length l) v)) (ltb (fewer l (length l) v) k) is) in omega (arith, fewer-is)
+    few-below : amount (λ x. lt x v) l < k
+    few-below = omega (arith, fewer-is, kth-below l (length l) k v is)
 
 -- ---- finite coordinates
 module _ (coords : List Float) (east north : Float) (own : Own) (n : ℕ) (e : T (finite east)) (f : T (finite north)) (ok : (c : ℕ) → c < 2 * n → T (finite (getD coords c nan))) where
@@ -180,7 +179,7 @@ module _ (coords : List Float) (east north : Float) (own : Own) (n : ℕ) (e : T
         down : (j : ℕ) → j < n → T (lt (d j) r) → T (lt (s j) v)
         down j h u =
             let o = sum-ok j h in
-            either (lt (s j) v) (λ z. z)
+            by-truth (lt (s j) v) (λ z. z)
             (λ z.
             absurd
             (apart (root (s j)) r (subst (λ (y : Float). T (lt y r)) (root-is j) u)
@@ -189,8 +188,8 @@ module _ (coords : List Float) (east north : Float) (own : Own) (n : ℕ) (e : T
     the-kth : (m : ℕ) → T (isKth l (length l) m v) → getD all (m - 1) zero64 ≡ r
     the-kth m is =
         let c = m - 1 in
-        let enough = kth-enough l m v is in
-        let few = kth-few l m v is in
+        let enough = enough-met l m v is in
+        let few = few-below l m v is in
         let within : c < length all = omega (arith, lifted, amount-most (λ x. le x r) all) in
         let q = root-nonneg v (above v t) in
         let number = nonneg-number r q .0 in

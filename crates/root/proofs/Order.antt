@@ -213,7 +213,7 @@ root-level (fin false m e) (fin false n d) p q a b h k =
 -- the root is above zero exactly where its number is
 pub above-root : (x : Float) → T (fits binary64 x) → T (nonneg x) → lt zero64 (root x) ≡ lt zero64 x
 above-root x f p =
-    either (lt zero64 x && lt x inf64)
+    by-truth (lt zero64 x && lt x inf64)
     (λ t.
     let a = and-l (lt zero64 x) (lt x inf64) t in
     is-true (lt zero64 (root x)) (root-above x f a (and-r (lt zero64 x) (lt x inf64) t)) ∙ sym (is-true (lt zero64 x) a))

@@ -14,6 +14,8 @@ use lib.Ieee.{Float, nan, le, lt, isNan}
 use lib.Ieee.Fits.{and-l, and-r}
 use Rattle.real.specs.Fold.{turns, range}
 use Rattle.real.proofs.Fold.{related}
+use Rattle.real.proofs.Cases.{by-truth}
+use Rattle.real.proofs.Rounding.{same-truth}
 use Rattle.real.proofs.SignedOrder.{le-tr, apart, nlt→le, lt→le, number-left, number-right}
 use Rattle.selection.specs.Kth.{tally, atMost, fewer, isKth, kthStep, kthSmallest}
 use Rattle.selection.proofs.Tallies.{tally-mono, tally-more, tally-same, tally-most}
@@ -23,31 +25,21 @@ pub record Level (x y : Float) : Type 0 where
   pub up : T (le x y)
   pub down : T (le y x)
 
-by-cases : {A : Type 0} (b : Bool) → (T b → A) → (T (not b) → A) → A
-by-cases true f g = f tt
-by-cases false f g = g tt
-
-both-ways : (a b : Bool) → (T a → T b) → (T b → T a) → a ≡ b
-both-ways true true f g = refl
-both-ways true false f g = absurd (f tt)
-both-ways false true f g = absurd (g tt)
-both-ways false false f g = refl
-
 -- ---- what is below, or at most, one of two level numbers
 below-at-most : (x v w : Float) → T (lt x v) → T (le v w) → T (lt x w)
 below-at-most x v w h k =
-    by-cases (lt x w) (λ t. t) (λ t. absurd (apart x v h (le-tr v w x k (nlt→le x w (number-left x v (lt→le x v h)) (number-right v w k) t))))
+    by-truth (lt x w) (λ t. t) (λ t. absurd (apart x v h (le-tr v w x k (nlt→le x w (number-left x v (lt→le x v h)) (number-right v w k) t))))
 
 at-most-below : (x w v : Float) → T (le x w) → T (lt w v) → T (lt x v)
 at-most-below x w v h k =
-    by-cases (lt x v) (λ t. t) (λ t. absurd (apart w v k (le-tr v x w (nlt→le x v (number-left x w h) (number-right w v (lt→le w v k)) t) h)))
+    by-truth (lt x v) (λ t. t) (λ t. absurd (apart w v k (le-tr v x w (nlt→le x v (number-left x w h) (number-right w v (lt→le w v k)) t) h)))
 
 module _ {v w : Float} (e : Level v w) where
   level-le : (x : Float) → le x v ≡ le x w
-  level-le x = both-ways (le x v) (le x w) (λ t. le-tr x v w t (e .up)) (λ t. le-tr x w v t (e .down))
+  level-le x = same-truth (le x v) (le x w) (λ t. le-tr x v w t (e .up)) (λ t. le-tr x w v t (e .down))
 
   pub level-lt : (x : Float) → lt x v ≡ lt x w
-  level-lt x = both-ways (lt x v) (lt x w) (λ t. below-at-most x v w t (e .up)) (λ t. below-at-most x w v t (e .down))
+  level-lt x = same-truth (lt x v) (lt x w) (λ t. below-at-most x v w t (e .up)) (λ t. below-at-most x w v t (e .down))
 
 module _ (l : List Float) (n m : ℕ) where
   abbrev x : ℕ → Float
@@ -62,20 +54,20 @@ module _ (l : List Float) (n m : ℕ) where
       rw (a, b)
 
   module _ (v : Float) (k : T (isKth l n m v)) where
-    enough : m ≤ atMost l n v
+    pub kth-enough : m ≤ atMost l n v
     unfolding isKth
-    enough = leb→le m (atMost l n v) (and-l (leb m (atMost l n v)) (ltb (fewer l n v) m) k)
+    kth-enough = leb→le m (atMost l n v) (and-l (leb m (atMost l n v)) (ltb (fewer l n v) m) k)
 
-    not-more : fewer l n v < m
+    pub kth-below : fewer l n v < m
     unfolding isKth
-    not-more = ltb→lt (fewer l n v) m (and-r (leb m (atMost l n v)) (ltb (fewer l n v) m) k)
+    kth-below = ltb→lt (fewer l n v) m (and-r (leb m (atMost l n v)) (ltb (fewer l n v) m) k)
 
     -- one of the numbers is level with it
     kth-met : (j : ℕ) × (j < n) × Level (x j) v
     unfolding atMost fewer
     kth-met =
-        let a = enough in
-        let b = not-more in
+        let a = kth-enough in
+        let b = kth-below in
         let f = tally-more (λ j. le (x j) v) (λ j. lt (x j) v) n (omega arith) in
         (f .0, f .1, record { up = f .2; down = nlt→le (x (f .0)) v (number-left (x (f .0)) v (f .2)) (number-right (x (f .0)) v (f .2)) (f .3) })
 
@@ -85,12 +77,12 @@ module _ (l : List Float) (n m : ℕ) where
   -- of two that are the m-th smallest none is above the other
   not-above : (v w : Float) → T (isKth l n m v) → T (isKth l n m w) → T (le v w)
   unfolding atMost fewer
-  not-above v w h k = by-cases (lt w v) (λ t. absurd (clash t)) (λ t. nlt→le w v (kth-number w k) (kth-number v h) t)
+  not-above v w h k = by-truth (lt w v) (λ t. absurd (clash t)) (λ t. nlt→le w v (kth-number w k) (kth-number v h) t)
     where
       clash : T (lt w v) → ⊥
       clash t =
-          let a = enough w k in
-          let b = not-more v h in
+          let a = kth-enough w k in
+          let b = kth-below v h in
           let c = tally-mono (λ j. le (x j) w) (λ j. lt (x j) v) n (λ j g u. at-most-below (x j) w v u t) in
           not-suc-le-zero {n = 0} (omega arith)
 
