@@ -91,13 +91,16 @@ squares-nonneg ax ay bx by p =
     sum-nonneg (mul binary64 dx dx) (mul binary64 dy dy) (square-nonneg dx (square-of-number dx (t .0))) (square-nonneg dy (square-of-number dy (t .1)))
 
 module _ (ax ay bx by : Float) (fax : T (finite ax)) (fay : T (finite ay)) (fbx : T (finite bx)) (fby : T (finite by)) where
-  distance-nonneg : T (nonneg (distanceOf ax ay bx by))
-  unfolding distanceOf squaresOf
-  distance-nonneg =
+  pub squares-from-zero : T (nonneg (squaresOf ax ay bx by))
+  unfolding squaresOf
+  squares-from-zero =
       let dx = sub binary64 ax bx in
       let dy = sub binary64 ay by in
-      root-nonneg (add binary64 (mul binary64 dx dx) (mul binary64 dy dy))
-      (sum-nonneg (mul binary64 dx dx) (mul binary64 dy dy) (square-nonneg dx (difference-number ax bx fax fbx)) (square-nonneg dy (difference-number ay by fay fby)))
+      sum-nonneg (mul binary64 dx dx) (mul binary64 dy dy) (square-nonneg dx (difference-number ax bx fax fbx)) (square-nonneg dy (difference-number ay by fay fby))
+
+  distance-nonneg : T (nonneg (distanceOf ax ay bx by))
+  unfolding distanceOf
+  distance-nonneg = root-nonneg (squaresOf ax ay bx by) squares-from-zero
 
   -- what `weights-in` asks
   pub distance-above : T (le zero64 (distanceOf ax ay bx by))

@@ -1,13 +1,19 @@
-// What rust/bench times and no other call shows, with C linkage: square roots and exponentials of many numbers in place, so that
-// a timing of one has no call's cost in it, and the turns of a job. Only rust/bench links it.
+// What rust/bench times or compares and no other call shows, with C linkage: square roots and exponentials of many numbers in place,
+// so that a timing of one has no call's cost in it, the turns of a job, and a walk that is stopped. Only rust/bench links it.
 ghost use mathlib.Core.Path.{_≡_};
 ghost use mathlib.Core.List.{map};
-ghost use lib.ListN.{length};
+ghost use Prim.Native.Nat.{_*_, _≤_};
+ghost use lib.ListN.{length, getD, take};
+ghost use Rattle.real.specs.Reals.{zero64};
 ghost use Rattle.root.specs.Root.{root};
 ghost use Rattle.elementary.specs.Exp.{expv};
 ghost use Rattle.setup.specs.Data.{dataOf};
 ghost use Rattle.measured.specs.Turns.{kernelBy, playOf, turnsOf};
+ghost use Rattle.neighbours.specs.Walk.{walkIn};
+ghost use Rattle.measured.specs.Walks.{ownBy, endOf, walksOf, askedOf};
 use kernel::GwrKernel;
+use neighbours::Own;
+use neighbours::Walker;
 use setup::GwrBandwidth;
 use setup::GwrOptions;
 use stepping::Job;
@@ -91,4 +97,91 @@ pub extern "C" fn zescolumba_turns(
     let first = begun.job;
     let last = play(first, coords, x, y, out, allowance, turns);
     last.solves
+}
+
+fn own_by(i: usize, n: usize) -> Own
+    ensures { λ r. ⌜ r ≡ ownBy i n ⌝ }
+{
+    if i < n {
+        return Own::At(i);
+    }
+    Own::Nobody
+}
+
+// The sum in place `at` of a walk, 0 where there is none.
+fn sum_at(w: Walker, sums: &[f64; 512], at: usize) -> f64
+    requires { ⌜ (w .met ≤ 512) × (length (now sums) ≡ 512) ⌝ }
+    ensures { λ r. ⌜ r ≡ getD (take (w .met) (now (sums .entry))) at zero64 ⌝ }
+{
+    if at < w.met {
+        return sums[at];
+    }
+    0.0
+}
+
+// What is seen of a walk's end.
+fn see(w: Walker, sums: &[f64; 512], k: usize, at: usize, seen: &mut [f64; 5])
+    requires { ⌜ (w .met ≤ 512) × (length (now sums) ≡ 512) ⌝ }
+    ensures { λ _. ⌜ now (seen .exit) ≡ endOf (walkIn (now (sums .entry)) (w .met) (w .greatest)) k at (now (seen .entry)) ⌝ }
+{
+    seen[1] = neighbours::found_by(w, sums, k);
+    seen[2] = w.greatest;
+    seen[3] = real::from_count(w.met);
+    seen[4] = sum_at(w, sums, at);
+}
+
+// A walk from (east, north) over the first m of n pantries, asked for k there, and then over the others, asked again.
+fn walks(
+    coords: &[f64],
+    n: usize,
+    east: f64,
+    north: f64,
+    own: Own,
+    m: usize,
+    k: usize,
+    at: usize,
+    seen: &mut [f64; 5],
+)
+    requires { ⌜ (2 * n ≤ length (now coords)) × (n ≤ 512) × (m ≤ n) ⌝ }
+    ensures { λ _. ⌜ now (seen .exit) ≡ walksOf (now (coords .entry)) n east north own m k at (now (seen .entry)) ⌝ }
+{
+    let mut sums = [0.0; 512];
+    let first = neighbours::walk_on(
+        neighbours::begin(),
+        coords,
+        0,
+        m,
+        east,
+        north,
+        own,
+        &mut sums,
+    );
+    seen[0] = neighbours::found_by(first, &sums, k);
+    let whole = neighbours::walk_on(first, coords, m, n, east, north, own, &mut sums);
+    see(whole, &sums, k, at, seen);
+}
+
+// The same of the pantries that the coordinates have; an own number from their number on is nobody's. Answers 1, or 0 where they are
+// more than 512, or fewer than m.
+#[no_mangle]
+pub extern "C" fn zescolumba_walk(
+    coords: &[f64],
+    east: f64,
+    north: f64,
+    own: usize,
+    m: usize,
+    k: usize,
+    at: usize,
+    seen: &mut [f64; 5],
+) -> u32
+    ensures { λ r. ⌜ (r, now (seen .exit)) ≡ askedOf (now (coords .entry)) east north own m k at (now (seen .entry)) ⌝ }
+{
+    let n = coords.len() / 2;
+    if n <= 512 {
+        if m <= n {
+            walks(coords, n, east, north, own_by(own, n), m, k, at, seen);
+            return 1;
+        }
+    }
+    0
 }

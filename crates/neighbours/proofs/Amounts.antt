@@ -1,37 +1,34 @@
--- How many numbers of a list pass a test: all distances by their pantries, and what an amount says of a list in order. Assumes nothing.
+-- How many numbers of a list pass a test: of all distances in order and of those that a walk met, by their pantries; and what an amount says of a list in order. Assumes nothing.
 use mathlib.Core.Path.{_≡_, refl, sym, ap, _∙_, subst}
 use mathlib.Core.Bool.{Bool, true, false, not, cond, _&&_}
-use mathlib.Core.Logic.{inl, inr}
 use mathlib.Core.List.{List, [], _∷_, _++_}
 use Prim.Native.Nat.{ℕ, zero, suc, _+_, _-_, _≤_, _<_}
-use native.Mathlib.Nat.{not-suc-le-zero, eq-or-lt-of-le}
+use native.Mathlib.Nat.{not-suc-le-zero}
 use native.Mathlib.Numerals.{add-one}
 use native.Mathlib.Omega.{arith}
-use borrow.Author.Tests.{eq-eqb, ne-eqb}
-use lib.Dec.{T, T-not, eqb}
+use lib.Dec.{T, T-not}
 use lib.ListN.{length, take, drop, getD, take-append-drop}
+use lib.Seq.{take-suc, take-length}
 use lib.Ieee.{Float, nan, le, lt, isNan}
 use lib.Ieee.Bits.{is-true}
 use Rattle.real.specs.Fold.{turns, range}
-use Rattle.real.proofs.Values.{untrue}
 use Rattle.real.proofs.Cases.{by-truth}
+use Rattle.real.proofs.Values.{untrue}
 use Rattle.real.proofs.SignedOrder.{le-tr, apart, nlt→le, number-left}
 use Rattle.selection.specs.Kth.{tallyStep, tally}
 use Rattle.selection.proofs.Tallies.{tally-turns}
 use Rattle.neighbours.specs.Insert.{rankOf, insert}
 use Rattle.neighbours.specs.declared.Own.{Own}
-use Rattle.neighbours.specs.declared.Own.the-variants.{At, Nobody}
-use Rattle.neighbours.specs.Walk.{isOwn}
+use Rattle.neighbours.specs.Walk.{Walk, unmet, meet, isOwn, pass, walkOn}
 use Rattle.neighbours.specs.Smallest.{insertStep, allDistances, Ascending}
-use Rattle.neighbours.specs.Sums.{OwnBelow, others}
-use Rattle.neighbours.proofs.Smallest.{ins-is}
+use Rattle.neighbours.proofs.Inserts.{ins-is}
 
 unfoldable pub amount : (Float → Bool) → List Float → ℕ
 amount p [] = 0
 amount p (x ∷ l) = cond (p x) (suc (amount p l)) (amount p l)
 
 module _ (p : Float → Bool) where
-  amount-append : (a b : List Float) → amount p (a ++ b) ≡ amount p a + amount p b
+  pub amount-append : (a b : List Float) → amount p (a ++ b) ≡ amount p a + amount p b
   unfolding amount
   amount-append [] b = omega arith
   amount-append (x ∷ a) b = go (p x) (amount-append a b)
@@ -40,7 +37,7 @@ module _ (p : Float → Bool) where
       go true e = omega arith
       go false e = e
 
-  amount-cons : (x : Float) (l : List Float) → amount p (x ∷ l) ≡ cond (p x) (suc (amount p l)) (amount p l)
+  pub amount-cons : (x : Float) (l : List Float) → amount p (x ∷ l) ≡ cond (p x) (suc (amount p l)) (amount p l)
   unfolding amount
   amount-cons x l = refl
 
@@ -77,6 +74,44 @@ module _ (p : Float → Bool) where
     unfolding allDistances tally range
     amount-all m = amount-walked (m - 0)
 
+    -- and those that a walk met
+    amount-passed : (j : ℕ) (w : Walk) (c : ℕ) → amount p (w .sums) ≡ c → amount p (pass own d j w .sums) ≡ tallyStep (λ q. not (isOwn own q) && p (d q)) j c
+    unfolding pass meet tallyStep amount
+    amount-passed j w c e = go (isOwn own j)
+      where
+        inner : (b : Bool) → amount p (w .sums) + cond b 1 0 ≡ cond b (c + 1) c
+        inner true = omega arith
+        inner false = omega arith
+
+        go : (b : Bool) → amount p (cond b w (meet (d j) w) .sums) ≡ cond (not b && p (d j)) (c + 1) c
+        go true = e
+        go false = amount-append (w .sums) (d j ∷ []) ∙ inner (p (d j))
+
+    amount-gathered : (n : ℕ) → amount p (turns (pass own d) 0 n unmet .sums) ≡ turns (tallyStep (λ q. not (isOwn own q) && p (d q))) 0 n 0
+    unfolding turns amount
+    amount-gathered zero = refl
+    amount-gathered (suc n) = amount-passed (0 + n) (turns (pass own d) 0 n unmet) _ (amount-gathered n)
+
+    pub amount-met : (m : ℕ) → amount p (walkOn own d 0 m unmet .sums) ≡ tally (λ q. not (isOwn own q) && p (d q)) m
+    unfolding walkOn tally range
+    amount-met m = amount-gathered (m - 0)
+
+  -- by its places
+  amount-taken : (l : List Float) (n : ℕ) → n ≤ length l → amount p (take n l) ≡ turns (tallyStep (λ j. p (getD l j nan))) 0 n 0
+  unfolding turns tallyStep amount
+  amount-taken l zero h = refl
+  amount-taken l (suc n) h =
+      let z : 0 + n ≡ n = omega arith in
+      ap (amount p) (take-suc l n nan h) ∙ amount-append (take n l) (getD l n nan ∷ []) ∙ rw z (go (p (getD l n nan)) (amount-taken l n (omega arith)))
+    where
+      go : (b : Bool) → amount p (take n l) ≡ turns (tallyStep (λ j. p (getD l j nan))) 0 n 0
+          → amount p (take n l) + cond b 1 0 ≡ cond b (turns (tallyStep (λ j. p (getD l j nan))) 0 n 0 + 1) (turns (tallyStep (λ j. p (getD l j nan))) 0 n 0)
+      go true e = omega arith
+      go false e = omega arith
+
+  pub amount-tally : (l : List Float) → tally (λ j. p (getD l j nan)) (length l) ≡ amount p l
+  amount-tally l = tally-turns (λ j. p (getD l j nan)) (length l) ∙ sym (amount-taken l (length l) (omega arith)) ∙ ap (amount p) (take-length l)
+
   -- none from place f on passes
   pub amount-upto : (l : List Float) (f : ℕ) → ((j : ℕ) → f ≤ j → j < length l → p (getD l j nan) ≡ false) → amount p l ≤ f
   unfolding amount
@@ -100,7 +135,7 @@ module _ (p : Float → Bool) where
       let r = amount-from l f (omega arith) (λ j a. h (suc j) (omega arith)) in
       rw e (omega arith)
 
-  amount-most : (l : List Float) → amount p l ≤ length l
+  pub amount-most : (l : List Float) → amount p l ≤ length l
   amount-most l = amount-upto l (length l) (λ j a b. absurd (not-suc-le-zero {n = 0} (omega arith)))
 
   -- as many as there are
@@ -115,47 +150,21 @@ module _ (p : Float → Bool) where
       go true e again m (suc c) n = again (omega arith) c (omega arith)
       go false e again m c n = absurd (not-suc-le-zero {n = 0} (omega (arith, amount-most l)))
 
+pub amount-mono : (p q : Float → Bool) → ((x : Float) → T (p x) → T (q x)) → (l : List Float) → amount p l ≤ amount q l
+unfolding amount
+amount-mono p q h [] = omega arith
+amount-mono p q h (x ∷ l) = go (p x) (q x) (h x) (amount-mono p q h l)
+  where
+    go : (b c : Bool) → (T b → T c) → amount p l ≤ amount q l → cond b (suc (amount p l)) (amount p l) ≤ cond c (suc (amount q l)) (amount q l)
+    go true true f r = omega arith
+    go true false f r = absurd (f tt)
+    go false true f r = omega arith
+    go false false f r = r
+
 pub amount-length : (l : List Float) → amount (λ x. true) l ≡ length l
 unfolding amount
 amount-length [] = refl
 amount-length (x ∷ l) = ap suc (amount-length l)
-
--- ---- the others
-nobody-far : (n : ℕ) → turns (tallyStep (λ q. true)) 0 n 0 ≡ n
-unfolding turns tallyStep
-nobody-far zero = refl
-nobody-far (suc n) = rw (nobody-far n) (add-one n)
-
-module _ (i : ℕ) where
-  others-far : (n : ℕ) → n ≤ i → turns (tallyStep (λ q. not (eqb i q) && true)) 0 n 0 ≡ n
-  unfolding turns tallyStep
-  others-far zero h = refl
-  others-far (suc n) h =
-      let z : 0 + n ≡ n = omega arith in
-      rw (z, ne-eqb i n (λ e. not-suc-le-zero {n = 0} (omega arith)), others-far n (omega arith)) (add-one n)
-
-  others-near : (n : ℕ) → i < n → turns (tallyStep (λ q. not (eqb i q) && true)) 0 n 0 ≡ n - 1
-  unfolding turns tallyStep
-  others-near zero h = absurd (not-suc-le-zero h)
-  others-near (suc n) h =
-      let z : 0 + n ≡ n = omega arith in
-      let s : suc n - 1 ≡ n = omega arith in
-      elim (eq-or-lt-of-le (at-most-n h)) [
-        | inl e ↦ rw (z, eq-eqb i n e, s) (others-far n (omega arith))
-        | inr g ↦ rw (z, ne-eqb i n (λ e. not-suc-le-zero {n = 0} (omega arith)), s, others-near n g) (omega arith)
-      ]
-    where
-      at-most-n : i < suc n → i ≤ n
-      at-most-n l = omega arith
-
-met-others : (own : Own) (n : ℕ) → OwnBelow n own → turns (tallyStep (λ q. not (isOwn own q) && true)) 0 n 0 ≡ others own n
-unfolding isOwn
-met-others (At i) n h = others-near i n h
-met-others Nobody n h = nobody-far n
-
--- of n pantries, as many are met as are others
-pub all-length : (own : Own) (d : ℕ → Float) (n : ℕ) → OwnBelow n own → length (allDistances own d n) ≡ others own n
-all-length own d n h = sym (amount-length (allDistances own d n)) ∙ amount-all (λ x. true) own d n ∙ tally-turns (λ q. not (isOwn own q) && true) n ∙ met-others own n h
 
 -- ---- the q-th number of a list in order, by amounts
 module _ (l : List Float) (up : Ascending l) (f : ℕ) (h : f < length l) (r : Float) (n : T (not (isNan r))) where

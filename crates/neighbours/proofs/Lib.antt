@@ -1,8 +1,6 @@
-pub mod Inserts
-pub mod Owns
 pub mod Walks
-pub mod Smallest
-pub mod Summed
+pub mod Inserts
 pub mod Amounts
-pub mod Selects
+pub mod Greatest
+pub mod Smallest
 pub mod Bandwidths

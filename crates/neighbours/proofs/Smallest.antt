@@ -1,302 +1,40 @@
--- The distances that a walk keeps are the k smallest of those met: the first k of all in ascending order. Assumes nothing.
+-- What a walk gives is 01's bandwidth: the k-th smallest of all distances in order, by the root of the k-th smallest sum of squares. Assumes nothing.
 use mathlib.Core.Path.{_≡_, refl, sym, ap, _∙_, subst}
-use mathlib.Core.Bool.{Bool, true, false, not, cond}
-use mathlib.Core.Logic.{_⊎_, inl, inr}
-use mathlib.Core.List.{List, [], _∷_, _++_, List·Permᴰ, List·Permᴰ·nil, List·Permᴰ·cons, List·Permᴰ·trans, Permᴰ·middle}
+use mathlib.Core.Bool.{Bool, true, false, not, cond, _&&_}
+use mathlib.Core.Logic.{inl, inr}
+use mathlib.Core.List.{List, [], _∷_, List·Permᴰ, List·Permᴰ·nil, List·Permᴰ·cons, List·Permᴰ·trans}
 use Prim.Native.Nat.{ℕ, zero, suc, _+_, _-_, _*_, _≤_, _<_, min}
-use native.Mathlib.Nat.{not-suc-le-zero, eq-or-lt-of-le}
+use native.Mathlib.Nat.{not-suc-le-zero, min-eq-left, min-eq-right}
 use native.Mathlib.Omega.{arith}
-use borrow.Author.Tests.{le-ltb, lt-ltb}
-use lib.Dec.{T, ltb}
-use lib.ListN.{length, take, drop, getD, length-take, take-append-drop, List·getD-append}
-use lib.Seq.{length-take-le, take-all, take-nil, take-take, take-append-le, take-append-add, take-add, drop-at, getD-at, getD-take, getD-drop, getD-append-add}
-use lib.Ieee.{Float, nan, le, lt, isNan}
+use borrow.Author.Tests.{le-leb, lt-ltb}
+use lib.Dec.{T, leb, ltb}
+use lib.ListN.{length, getD, List·getD-eq-default}
+use lib.Ieee.{Float, nan, binary64, le, lt, fits}
+use lib.Ieee.Bits.{is-true}
+use lib.Ieee.Fits.{and-i}
+use lib.Ieee.Scale.{finite}
 use Rattle.real.specs.Fold.{turns, range}
 use Rattle.real.specs.Reals.{zero64, greater, eps64}
-use Rattle.real.proofs.SignedOrder.{le-tr, le-total, apart, nlt→le, number-left, here-or-on}
-use lib.Ieee.Scale.{finite}
-use Rattle.kernel.proofs.DistanceRange.{distance-number}
-use Rattle.neighbours.specs.Insert.{rankOf, insert}
+use Rattle.real.proofs.Fold.{kept}
+use Rattle.real.proofs.Cases.{by-truth}
+use Rattle.real.proofs.Values.{untrue}
+use Rattle.real.proofs.SignedOrder.{nonneg, apart, nlt→le, here-or-on}
+use Rattle.root.specs.Root.{root}
+use Rattle.root.proofs.Order.{nonneg-number, root-nonneg, root-order, root-fits, above-root, one-only}
+use Rattle.kernel.proofs.DistanceRange.{squares-from-zero}
+use Rattle.kernel.proofs.Reaches.{squares-fits, distance-is}
+use Rattle.selection.specs.Kth.{atMost, fewer, isKth, kthSmallest}
+use Rattle.selection.proofs.Tallies.{tally-mono}
+use Rattle.selection.proofs.Kths.{kth-enough, kth-below, Found, one, none, kth-found, kth-none}
+use Rattle.neighbours.specs.Insert.{insert}
 use Rattle.neighbours.specs.declared.Own.{Own}
-use Rattle.neighbours.specs.Walk.{Walk, keep, meet, isOwn, pass, unmet, walkOn, foundBy, distanceFrom, nearestFrom}
-use Rattle.neighbours.specs.Smallest.{insertStep, allDistances, frontStep, metDistances, Ascending, kthOf, greatStep, greatestMet, kthNearest}
-use Rattle.neighbours.proofs.Inserts.{rank-take, rank-within, length-inserted, keep-first, keep-second, keep-third}
-
-abbrev Number : Float → Type 0
-Number x = T (not (isNan x))
-
-le-itself : (x : Float) → Number x → T (le x x)
-le-itself x n = elim (le-total x x n n) [ inl h ↦ h | inr h ↦ h ]
-
-false-of : (b : Bool) → (T b → ⊥) → b ≡ false
-false-of true h = absurd (h tt)
-false-of false h = refl
-
--- ---- the place
-module _ (x : Float) (l : List Float) where
-  rank-suc : (n : ℕ) → rankOf x l (suc n) ≡ cond (le (getD l n nan) x) (suc n) (rankOf x l n)
-  unfolding rankOf
-  rank-suc n = refl
-
-  -- what stands just before the place is at most x
-  rank-before : (n p : ℕ) → rankOf x l n ≡ suc p → T (le (getD l p nan) x)
-  unfolding rankOf
-  rank-before zero p e = absurd (not-suc-le-zero {n = 0} (omega arith))
-  rank-before (suc n) p e = go (le (getD l n nan) x) refl e (rank-before n p)
-    where
-      go : (b : Bool) → le (getD l n nan) x ≡ b → cond b (suc n) (rankOf x l n) ≡ suc p → (rankOf x l n ≡ suc p → T (le (getD l p nan) x)) → T (le (getD l p nan) x)
-      go true t q again = let s : n ≡ p = omega arith in subst (λ (i : ℕ). T (le (getD l i nan) x)) s (subst T (sym t) tt)
-      go false t q again = again q
-
-  -- what stands from the place on is not
-  rank-after : (n j : ℕ) → rankOf x l n ≤ j → j < n → le (getD l j nan) x ≡ false
-  unfolding rankOf
-  rank-after zero j h k = absurd (not-suc-le-zero k)
-  rank-after (suc n) j h k = go (le (getD l n nan) x) refl h (rank-after n j)
-    where
-      go : (b : Bool) → le (getD l n nan) x ≡ b → cond b (suc n) (rankOf x l n) ≤ j → (rankOf x l n ≤ j → j < n → le (getD l j nan) x ≡ false) → le (getD l j nan) x ≡ false
-      go true t q again = absurd (not-suc-le-zero {n = 0} (omega arith))
-      go false t q again =
-          elim (here-or-on j n) [
-            | inl g ↦ again q g
-            | inr g ↦ let s : n ≡ j = omega arith in subst (λ (i : ℕ). le (getD l i nan) x ≡ false) s t
-          ]
-
-  -- a number at most x stands before the place
-  rank-reach : (n j : ℕ) → j < n → T (le (getD l j nan) x) → j < rankOf x l n
-  rank-reach n j h t =
-      elim (here-or-on j (rankOf x l n)) [
-        | inl g ↦ g
-        | inr g ↦ absurd (subst T (rank-after n j g h) t)
-      ]
-
-  -- numbers above x from f on leave the place as it is among the first f
-  rank-skip : (f n : ℕ) → f ≤ n → ((j : ℕ) → f ≤ j → j < n → le (getD l j nan) x ≡ false) → rankOf x l n ≡ rankOf x l f
-  rank-skip f zero h above = ap (rankOf x l) (omega arith)
-  rank-skip f (suc n) h above =
-      elim (eq-or-lt-of-le h) [
-        | inl e ↦ ap (rankOf x l) (sym e)
-        | inr g ↦
-            rank-suc n
-            ∙ ap (λ (b : Bool). cond b (suc n) (rankOf x l n)) (above n (omega arith) (omega arith))
-            ∙ rank-skip f n (omega arith) (λ j p q. above j p (omega arith))
-      ]
-
--- ---- an insertion's numbers
-data Where (p : ℕ) : ℕ → Type 0 where
-  before : {a : ℕ} → a < p → Where p a
-  here : Where p p
-  behind : (c : ℕ) → p ≤ c → Where p (suc c)
-
-where-is : (p a : ℕ) → Where p a
-where-is p a = go a (here-or-on a p)
-  where
-    go : (a : ℕ) → (a < p) ⊎ (p ≤ a) → Where p a
-    go a (inl h) = before h
-    go zero (inr h) = let e : p ≡ 0 = omega arith in subst (λ (i : ℕ). Where p i) e here
-    go (suc c) (inr h) =
-        elim (eq-or-lt-of-le h) [
-          | inl e ↦ subst (λ (i : ℕ). Where p i) e here
-          | inr g ↦ behind c (omega arith)
-        ]
-
-module _ (x : Float) (l : List Float) (p : ℕ) (h : p ≤ length l) where
-  ins-before : (a : ℕ) → a < p → getD (take p l ++ x ∷ drop p l) a nan ≡ getD l a nan
-  ins-before a k = List·getD-append (take p l) (x ∷ drop p l) nan a (omega (arith, length-take-le p l h)) ∙ getD-take p l a nan k
-
-  ins-here : getD (take p l ++ x ∷ drop p l) p nan ≡ x
-  ins-here = getD-at (take p l) x (drop p l) nan p (length-take-le p l h)
-
-  ins-behind : (c : ℕ) → p ≤ c → getD (take p l ++ x ∷ drop p l) (suc c) nan ≡ getD l c nan
-  ins-behind c k =
-      let at : suc c ≡ length (take p l) + suc (c - p) = omega (arith, length-take-le p l h) in
-      let back : p + (c - p) ≡ c = omega arith in
-      ap (λ (i : ℕ). getD (take p l ++ x ∷ drop p l) i nan) at ∙ getD-append-add (take p l) (x ∷ drop p l) (suc (c - p)) nan
-      ∙ getD-drop p l (c - p) nan ∙ ap (λ (i : ℕ). getD l i nan) back
-
--- ---- order is kept
-pub ins-is : (x : Float) (l : List Float) (p : ℕ) → rankOf x l (length l) ≡ p → insert x l ≡ take p l ++ x ∷ drop p l
-unfolding insert
-ins-is x l p e = ap (λ (q : ℕ). take q l ++ x ∷ drop q l) e
-
-module _ (x : Float) (n : Number x) (l : List Float) (up : Ascending l) where
-  number-at : (c : ℕ) → c < length l → Number (getD l c nan)
-  number-at c h = number-left (getD l c nan) (getD l c nan) (up .ordered c c (omega arith) h)
-
-  below-x : (p a : ℕ) → rankOf x l (length l) ≡ p → a < p → p ≤ length l → T (le (getD l a nan) x)
-  below-x zero a e h k = absurd (not-suc-le-zero h)
-  below-x (suc p) a e h k = le-tr (getD l a nan) (getD l p nan) x (up .ordered a p (omega arith) (omega arith)) (rank-before x l (length l) p e)
-
-  above-x : (c : ℕ) → rankOf x l (length l) ≤ c → c < length l → T (le x (getD l c nan))
-  above-x c h k =
-      elim (le-total x (getD l c nan) n (number-at c k)) [
-        | inl g ↦ g
-        | inr g ↦ absurd (subst T (rank-after x l (length l) c h k) g)
-      ]
-
-  order : (p : ℕ) → rankOf x l (length l) ≡ p → p ≤ length l → (a b : ℕ) → Where p a → Where p b → a ≤ b → b < suc (length l)
-      → T (le (getD (take p l ++ x ∷ drop p l) a nan) (getD (take p l ++ x ∷ drop p l) b nan))
-  order p e h a b (before i) (before j) k m = rw (ins-before x l p h a i, ins-before x l p h b j) (up .ordered a b k (omega arith))
-  order p e h a b (before i) here k m = rw (ins-before x l p h a i, ins-here x l p h) (below-x p a e i h)
-  order p e h a b (before i) (behind c j) k m = rw (ins-before x l p h a i, ins-behind x l p h c j) (up .ordered a c (omega arith) (omega arith))
-  order p e h a b here (before j) k m = absurd (not-suc-le-zero {n = 0} (omega arith))
-  order p e h a b here here k m = rw (ins-here x l p h) (le-itself x n)
-  order p e h a b here (behind c j) k m = rw (ins-here x l p h, ins-behind x l p h c j) (above-x c (omega arith) (omega arith))
-  order p e h a b (behind c i) (before j) k m = absurd (not-suc-le-zero {n = 0} (omega arith))
-  order p e h a b (behind c i) here k m = absurd (not-suc-le-zero {n = 0} (omega arith))
-  order p e h a b (behind c i) (behind f j) k m = rw (ins-behind x l p h c i, ins-behind x l p h f j) (up .ordered c f (omega arith) (omega arith))
-
-  pub inserted-up : Ascending (insert x l)
-  inserted-up =
-      let p = rankOf x l (length l) in
-      let w = rank-within x l (length l) in
-      record {
-        ordered = λ a b h k.
-            subst (λ (s : List Float). T (le (getD s a nan) (getD s b nan))) (sym (ins-is x l p refl))
-            (order p refl w a b (where-is p a) (where-is p b) h (subst (λ (i : ℕ). b < i) (length-inserted x l) k));
-      }
-
--- ---- keeping the k smallest is cutting all in order at k
-module _ (x : Float) (l : List Float) where
-  drop-take : (p f : ℕ) → p ≤ f → p ≤ length l → drop p (take f l) ≡ take (f - p) (drop p l)
-  drop-take p f h k =
-      let e : f ≡ p + (f - p) = omega arith in
-      ap (λ (i : ℕ). drop p (take i l)) e ∙ ap (drop p) (take-add p (f - p) l) ∙ drop-at (take p l) (take (f - p) (drop p l)) p (length-take-le p l k)
-
-  cut-low : (f : ℕ) → f ≤ length l → ((j : ℕ) → f ≤ j → j < length l → le (getD l j nan) x ≡ false) → insert x (take f l) ≡ take (suc f) (insert x l)
-  cut-low f h above =
-      let p = rankOf x l f in
-      let w = rank-within x l f in
-      let long : length (take f l) ≡ f = length-take-le f l h in
-      let there : rankOf x (take f l) (length (take f l)) ≡ p = ap (rankOf x (take f l)) long ∙ rank-take x l f f (omega arith) in
-      let size : suc f ≡ length (take p l) + suc (f - p) = omega (arith, length-take-le p l (omega arith)) in
-      ins-is x (take f l) p there
-      ∙ ap (λ (s : List Float). s ++ x ∷ drop p (take f l)) (take-take p f l w)
-      ∙ ap (λ (s : List Float). take p l ++ x ∷ s) (drop-take p f w (omega arith))
-      ∙ sym (ap (take (suc f)) (ins-is x l p (rank-skip x l f (length l) h above)) ∙ ap (λ (i : ℕ). take i (take p l ++ x ∷ drop p l)) size ∙ take-append-add (take p l) (x ∷ drop p l) (suc (f - p)))
-
-  cut-high : (f : ℕ) → f < length l → T (le (getD l f nan) x) → take (suc f) l ≡ take (suc f) (insert x l)
-  cut-high f h t =
-      let p = rankOf x l (length l) in
-      let w = rank-within x l (length l) in
-      let g = rank-reach x l (length l) f h t in
-      sym (ap (take (suc f)) (ins-is x l p refl) ∙ take-append-le (suc f) (take p l) (x ∷ drop p l) (omega (arith, length-take-le p l w)) ∙ take-take (suc f) p l g)
-
-module _ (x : Float) (n : Number x) (l : List Float) (up : Ascending l) where
-  keep-cut : (k : ℕ) → 1 ≤ k → keep k x (take k l) ≡ take k (insert x l)
-  keep-cut zero o = absurd (not-suc-le-zero o)
-  keep-cut (suc f) o = elim (here-or-on (length l) (suc f)) [ inl h ↦ short h | inr h ↦ long h (lt x (getD l f nan)) refl ]
-    where
-      short : length l < suc f → keep (suc f) x (take (suc f) l) ≡ take (suc f) (insert x l)
-      short h =
-          ap (keep (suc f) x) (take-all (suc f) l (omega arith)) ∙ keep-first (suc f) x l (lt-ltb (length l) (suc f) h)
-          ∙ sym (take-all (suc f) (insert x l) (omega (arith, length-inserted x l)))
-
-      last-is : suc f ≤ length l → getD (take (suc f) l) (suc f - 1) nan ≡ getD l f nan
-      last-is h = let e : suc f - 1 ≡ f = omega arith in ap (λ (i : ℕ). getD (take (suc f) l) i nan) e ∙ getD-take (suc f) l f nan (omega arith)
-
-      full : suc f ≤ length l → ltb (length (take (suc f) l)) (suc f) ≡ false
-      full h = le-ltb (length (take (suc f) l)) (suc f) (omega (arith, length-take-le (suc f) l h))
-
-      above : lt x (getD l f nan) ≡ true → (j : ℕ) → f ≤ j → j < length l → le (getD l j nan) x ≡ false
-      above t j p q =
-          false-of (le (getD l j nan) x)
-          (λ (h : T (le (getD l j nan) x)). apart x (getD l f nan) (subst T (sym t) tt) (le-tr (getD l f nan) (getD l j nan) x (up .ordered f j p q) h))
-
-      long : suc f ≤ length l → (b : Bool) → lt x (getD l f nan) ≡ b → keep (suc f) x (take (suc f) l) ≡ take (suc f) (insert x l)
-      long h true t =
-          let e : suc f - 1 ≡ f = omega arith in
-          keep-second (suc f) x (take (suc f) l) (full h) (ap (lt x) (last-is h) ∙ t)
-          ∙ ap (λ (i : ℕ). insert x (take i (take (suc f) l))) e
-          ∙ ap (insert x) (take-take f (suc f) l (omega arith))
-          ∙ cut-low x l f (omega arith) (above t)
-      long h false t =
-          keep-third (suc f) x (take (suc f) l) (full h) (ap (lt x) (last-is h) ∙ t)
-          ∙ cut-high x l f h (nlt→le x (getD l f nan) n (number-left (getD l f nan) (getD l f nan) (up .ordered f f (omega arith) h)) (subst (λ (b : Bool). T (not b)) (sym t) tt))
-
--- ---- the walk
-pub record Cut (k : ℕ) (all kept : List Float) : Type 0 where
-  pub up : Ascending all
-  pub cut : kept ≡ take k all
-
-module _ (own : Own) (d : ℕ → Float) (k : ℕ) (o : 1 ≤ k) where
-  one-on : (j : ℕ) (all : List Float) (w : Walk) → (isOwn own j ≡ false → Number (d j)) → Cut k all (w .kept) → Cut k (insertStep own d j all) (pass own d k j w .kept)
-  unfolding insertStep pass meet
-  one-on j all w n c = go (isOwn own j) n
-    where
-      go : (b : Bool) → (b ≡ false → Number (d j)) → Cut k (cond b all (insert (d j) all)) (cond b w (meet k (d j) w) .kept)
-      go true m = c
-      go false m =
-          record {
-            up = inserted-up (d j) (m refl) all (c .up);
-            cut = ap (keep k (d j)) (c .cut) ∙ keep-cut (d j) (m refl) all (c .up) k o;
-          }
-
-  walked : (n m : ℕ) → n ≤ m → ((j : ℕ) → j < m → isOwn own j ≡ false → Number (d j)) → Cut k (turns (insertStep own d) 0 n []) (turns (pass own d k) 0 n unmet .kept)
-  unfolding turns
-  walked zero m h ok = record { up = record { ordered = λ a b p q. absurd (not-suc-le-zero q) }; cut = sym (take-nil k) }
-  walked (suc n) m h ok = one-on (0 + n) (turns (insertStep own d) 0 n []) (turns (pass own d k) 0 n unmet) (ok (0 + n) (omega arith)) (walked n m (omega arith) ok)
-
-  -- where no distance is NaN, all in turn inserted are in ascending order, and the walk keeps the first k of them
-  pub kept-smallest : (m : ℕ) → ((j : ℕ) → j < m → isOwn own j ≡ false → Number (d j)) → Cut k (allDistances own d m) (walkOn own d k 0 m unmet .kept)
-  unfolding allDistances walkOn range
-  kept-smallest m ok = walked (m - 0) m (omega arith) ok
-
-  great-on : (j : ℕ) (w : Walk) → pass own d k j w .greatest ≡ greatStep own d j (w .greatest)
-  unfolding pass meet greatStep
-  great-on j w = go (isOwn own j)
-    where
-      go : (b : Bool) → cond b w (meet k (d j) w) .greatest ≡ cond b (w .greatest) (greater (w .greatest) (d j))
-      go true = refl
-      go false = refl
-
-  great-walked : (n : ℕ) → turns (pass own d k) 0 n unmet .greatest ≡ turns (greatStep own d) 0 n zero64
-  unfolding turns
-  great-walked zero = refl
-  great-walked (suc n) = great-on (0 + n) (turns (pass own d k) 0 n unmet) ∙ ap (greatStep own d (0 + n)) (great-walked n)
-
-  -- a walk's greatest is the greatest distance met
-  pub kept-greatest : (m : ℕ) → walkOn own d k 0 m unmet .greatest ≡ greatestMet own d m
-  unfolding walkOn greatestMet range
-  kept-greatest m = great-walked (m - 0)
-
-  last-cut : (all : List Float) → getD (take k all) (length (take k all) - 1) zero64 ≡ kthOf k all
-  last-cut all = ap (λ (j : ℕ). getD (take k all) (j - 1) zero64) (length-take k all) ∙ getD-take k all (min k (length all) - 1) zero64 (omega arith)
-
-  found-is : (w : Walk) → foundBy w ≡ (let b = getD (w .kept) (length (w .kept) - 1) zero64 in cond (lt zero64 b) b (greater (w .greatest) eps64))
-  unfolding foundBy
-  found-is w = refl
-
-  -- where no distance is NaN, what the walk gives is the k-th smallest distance, with 01's fall-back
-  pub found-is-kth : (n : ℕ) → ((j : ℕ) → j < n → isOwn own j ≡ false → Number (d j)) → foundBy (walkOn own d k 0 n unmet) ≡ kthNearest own d n k
-  unfolding kthNearest
-  found-is-kth n ok =
-      let w = walkOn own d k 0 n unmet in
-      let e : getD (w .kept) (length (w .kept) - 1) zero64 ≡ kthOf k (allDistances own d n) = ap (λ (l : List Float). getD l (length l - 1) zero64) (kept-smallest n ok .cut) ∙ last-cut (allDistances own d n) in
-      found-is w
-      ∙ ap (λ (b : Float). cond (lt zero64 b) b (greater (w .greatest) eps64)) e
-      ∙ ap (λ (g : Float). let b = kthOf k (allDistances own d n) in cond (lt zero64 b) b (greater g eps64)) (kept-greatest n)
-
--- ---- finite coordinates, whose distances are no NaN
-module _ (coords : List Float) (east north : Float) (own : Own) (n : ℕ) (e : T (finite east)) (f : T (finite north)) (ok : (c : ℕ) → c < 2 * n → T (finite (getD coords c nan))) where
-  numbers : (j : ℕ) → j < n → isOwn own j ≡ false → Number (distanceFrom coords east north j)
-  unfolding distanceFrom
-  numbers j l _ = distance-number east north (getD coords (2 * j) nan) (getD coords (2 * j + 1) nan) e f (ok (2 * j) (omega arith)) (ok (2 * j + 1) (omega arith))
-
-  pub nearest-is-kth : (k : ℕ) → 1 ≤ k → nearestFrom coords n east north own k ≡ kthNearest own (distanceFrom coords east north) n k
-  unfolding nearestFrom
-  nearest-is-kth k o = found-is-kth own (distanceFrom coords east north) k o n numbers
-
-  pub all-ascending : Ascending (allDistances own (distanceFrom coords east north) n)
-  all-ascending = kept-smallest own (distanceFrom coords east north) 1 (omega arith) n numbers .up
+use Rattle.neighbours.specs.Walk.{Walk, unmet, isOwn, walkOn, widthOf, foundBy, squaresFrom, distanceFrom, nearestFrom}
+use Rattle.neighbours.specs.Smallest.{insertStep, allDistances, frontStep, metDistances, Ascending, kthOf, greatestMet, kthNearest}
+use Rattle.neighbours.proofs.Inserts.{Number, inserted-up, inserted-perm}
+use Rattle.neighbours.proofs.Amounts.{amount, amount-all, amount-met, amount-tally, amount-from, amount-upto, amount-most, amount-every, amount-length, by-at-most, by-below}
+use Rattle.neighbours.proofs.Greatest.{fromZero, held, above, Topped, walk-topped, greatest-root, zero-root}
 
 -- ---- all in order are those met, rearranged
-inserted-perm : (x : Float) (l : List Float) → List·Permᴰ (insert x l) (x ∷ l)
-inserted-perm x l =
-    let p = rankOf x l (length l) in
-    subst (λ (s : List Float). List·Permᴰ s (x ∷ l)) (sym (ins-is x l p refl))
-    (subst (λ (s : List Float). List·Permᴰ (take p l ++ x ∷ drop p l) (x ∷ s)) (take-append-drop p l) (Permᴰ·middle x (take p l) (drop p l)))
-
 module _ (own : Own) (d : ℕ → Float) where
   one-met : (j : ℕ) (l s : List Float) → List·Permᴰ l s → List·Permᴰ (insertStep own d j l) (frontStep own d j s)
   unfolding insertStep frontStep
@@ -314,3 +52,227 @@ module _ (own : Own) (d : ℕ → Float) where
   pub all-met : (m : ℕ) → List·Permᴰ (allDistances own d m) (metDistances own d m)
   unfolding allDistances metDistances range
   all-met m = met-walked (m - 0)
+
+-- ---- and where they are numbers, they are in ascending order
+module _ (own : Own) (d : ℕ → Float) (m : ℕ) (numbers : (j : ℕ) → j < m → Number (d j)) where
+  one-up : (j : ℕ) (l : List Float) → j < m → Ascending l → Ascending (insertStep own d j l)
+  unfolding insertStep
+  one-up j l h up = go (isOwn own j)
+    where
+      go : (b : Bool) → Ascending (cond b l (insert (d j) l))
+      go true = up
+      go false = inserted-up (d j) (numbers j h) l up
+
+  all-up : Ascending (allDistances own d m)
+  unfolding allDistances
+  all-up = kept (insertStep own d) 0 m Ascending one-up [] (omega arith) record { ordered = λ a b h k. absurd (not-suc-le-zero k) }
+
+-- ---- what stands at a place, whatever stands for none
+pub getD-any : (l : List Float) (i : ℕ) (a b : Float) → i < length l → getD l i a ≡ getD l i b
+getD-any [] i a b h = absurd (not-suc-le-zero h)
+getD-any (x ∷ l) zero a b h = refl
+getD-any (x ∷ l) (suc i) a b h = getD-any l i a b (omega arith)
+
+-- ---- the k-th smallest, by amounts
+module _ (l : List Float) (k : ℕ) (v : Float) where
+  at-most-is : atMost l (length l) v ≡ amount (λ x. le x v) l
+  unfolding atMost
+  at-most-is = amount-tally (λ x. le x v) l
+
+  fewer-is : fewer l (length l) v ≡ amount (λ x. lt x v) l
+  unfolding fewer
+  fewer-is = amount-tally (λ x. lt x v) l
+
+  is-kth : k ≤ amount (λ x. le x v) l → amount (λ x. lt x v) l < k → T (isKth l (length l) k v)
+  unfolding isKth
+  is-kth h g =
+      rw (at-most-is, fewer-is)
+      (and-i (leb k (amount (λ x. le x v) l)) (ltb (amount (λ x. lt x v) l) k) (subst T (sym (le-leb k (amount (λ x. le x v) l) h)) tt) (subst T (sym (lt-ltb (amount (λ x. lt x v) l) k g)) tt))
+
+  module _ (is : T (isKth l (length l) k v)) where
+    enough-met : k ≤ amount (λ x. le x v) l
+    enough-met = omega (arith, at-most-is, kth-enough l (length l) k v is)
+
+    few-below : amount (λ x. lt x v) l < k
+    few-below = omega (arith, fewer-is, kth-below l (length l) k v is)
+
+-- ---- finite coordinates
+module _ (coords : List Float) (east north : Float) (own : Own) (n : ℕ) (e : T (finite east)) (f : T (finite north)) (ok : (c : ℕ) → c < 2 * n → T (finite (getD coords c nan))) where
+  abbrev s : ℕ → Float
+  s = squaresFrom coords east north
+
+  abbrev d : ℕ → Float
+  d = distanceFrom coords east north
+
+  abbrev w : Walk
+  w = walkOn own s 0 n unmet
+
+  abbrev l : List Float
+  l = w .sums
+
+  abbrev g : Float
+  g = w .greatest
+
+  abbrev all : List Float
+  all = allDistances own d n
+
+  -- a sum is a binary64 from 0 up, and a distance its root
+  sum-ok : (j : ℕ) → j < n → T (fromZero (s j))
+  unfolding squaresFrom
+  sum-ok j h =
+      let x = getD coords (2 * j) nan in
+      let y = getD coords (2 * j + 1) nan in
+      and-i (fits binary64 (s j)) (nonneg (s j)) (squares-fits east north x y) (squares-from-zero east north x y e f (ok (2 * j) (omega arith)) (ok (2 * j + 1) (omega arith)))
+
+  root-is : (j : ℕ) → d j ≡ root (s j)
+  unfolding distanceFrom squaresFrom
+  root-is j = distance-is east north (getD coords (2 * j) nan) (getD coords (2 * j + 1) nan)
+
+  distance-ok : (j : ℕ) → j < n → T (fromZero (d j))
+  distance-ok j h =
+      let t = sum-ok j h in
+      rw (root-is j) (and-i (fits binary64 (root (s j))) (nonneg (root (s j))) (root-fits (s j) (held (s j) t) (above (s j) t)) (root-nonneg (s j) (above (s j) t)))
+
+  pub all-ascending : Ascending all
+  all-ascending = all-up own d n (λ j h. nonneg-number (d j) (above (d j) (distance-ok j h)) .0)
+
+  -- as many sums were met as there are distances
+  as-many : length l ≡ length all
+  as-many = sym (amount-length l) ∙ amount-met (λ x. true) own s n ∙ sym (amount-all (λ x. true) own d n) ∙ amount-length all
+
+  behind : (b c d : Bool) → (T c → T d) → T (b && c) → T (b && d)
+  behind true c d h t = h t
+  behind false c d h t = absurd t
+
+  -- every distance in order is a binary64 from 0 up
+  all-from-zero : (c : ℕ) → c < length all → T (fromZero (getD all c nan))
+  all-from-zero c h =
+      let a = amount-all fromZero own d n in
+      let b = amount-all (λ x. true) own d n in
+      let k = tally-mono (λ j. not (isOwn own j) && true) (λ j. not (isOwn own j) && fromZero (d j)) n (λ j i t. behind (not (isOwn own j)) true (fromZero (d j)) (λ _. distance-ok j i) t) in
+      amount-every fromZero all (omega (arith, amount-length all)) c h
+
+  -- ---- a sum that is the m-th smallest: its root is the m-th smallest distance
+  module _ (v : Float) (t : T (fromZero v)) where
+    abbrev r : Float
+    r = root v
+
+    -- as many distances are at most the root as sums are at most v, or more
+    lifted : amount (λ x. le x v) l ≤ amount (λ x. le x r) all
+    lifted =
+        let a = amount-met (λ x. le x v) own s n in
+        let b = amount-all (λ x. le x r) own d n in
+        let c = tally-mono (λ j. not (isOwn own j) && le (s j) v) (λ j. not (isOwn own j) && le (d j) r) n (λ j h u. behind (not (isOwn own j)) (le (s j) v) (le (d j) r) (up j h) u) in
+        omega arith
+      where
+        up : (j : ℕ) → j < n → T (le (s j) v) → T (le (d j) r)
+        up j h u = let o = sum-ok j h in rw (root-is j) (root-order (s j) v (held (s j) o) (held v t) (above (s j) o) (above v t) u)
+
+    -- and as many are below it as sums are below v, or fewer
+    lowered : amount (λ x. lt x r) all ≤ amount (λ x. lt x v) l
+    lowered =
+        let a = amount-met (λ x. lt x v) own s n in
+        let b = amount-all (λ x. lt x r) own d n in
+        let c = tally-mono (λ j. not (isOwn own j) && lt (d j) r) (λ j. not (isOwn own j) && lt (s j) v) n (λ j h u. behind (not (isOwn own j)) (lt (d j) r) (lt (s j) v) (down j h) u) in
+        omega arith
+      where
+        down : (j : ℕ) → j < n → T (lt (d j) r) → T (lt (s j) v)
+        down j h u =
+            let o = sum-ok j h in
+            by-truth (lt (s j) v) (λ z. z)
+            (λ z.
+            absurd
+            (apart (root (s j)) r (subst (λ (y : Float). T (lt y r)) (root-is j) u)
+            (root-order v (s j) (held v t) (held (s j) o) (above v t) (above (s j) o) (nlt→le (s j) v (nonneg-number (s j) (above (s j) o) .0) (nonneg-number v (above v t) .0) z))))
+
+    the-kth : (m : ℕ) → T (isKth l (length l) m v) → getD all (m - 1) zero64 ≡ r
+    the-kth m is =
+        let c = m - 1 in
+        let enough = enough-met l m v is in
+        let few = few-below l m v is in
+        let within : c < length all = omega (arith, lifted, amount-most (λ x. le x r) all) in
+        let q = root-nonneg v (above v t) in
+        let number = nonneg-number r q .0 in
+        let x = getD all c nan in
+        let o = all-from-zero c within in
+        getD-any all c zero64 nan within
+        ∙ one-only x r (held x o) (root-fits v (held v t) (above v t)) (above x o) q
+        (by-at-most all all-ascending c within r number (omega (arith, lifted)))
+        (by-below all all-ascending c within r number (omega (arith, lowered)))
+
+  -- ---- there is a k-th smallest sum where k were met
+  in-order : List Float
+  in-order = allDistances own s n
+
+  top : Topped w
+  top = walk-topped own s n sum-ok
+
+  some-kth : (k : ℕ) → 1 ≤ k → k ≤ length l → T (isKth l (length l) k (getD in-order (k - 1) nan))
+  unfolding in-order
+  some-kth k o h =
+      let up = all-up own s n (λ j i. nonneg-number (s j) (above (s j) (sum-ok j i)) .0) in
+      let c = k - 1 in
+      let y = getD in-order c nan in
+      let same : (p : Float → Bool) → amount p l ≡ amount p in-order = λ p. amount-met p own s n ∙ sym (amount-all p own s n) in
+      let long : length l ≡ length in-order = sym (amount-length l) ∙ same (λ x. true) ∙ amount-length in-order in
+      let a : k ≤ amount (λ x. le x y) in-order = amount-from (λ x. le x y) in-order k (omega arith) (λ j i. is-true (le (getD in-order j nan) y) (up .ordered j c (omega arith) (omega arith))) in
+      let b : amount (λ x. lt x y) in-order ≤ c = amount-upto (λ x. lt x y) in-order c (λ j i z. untrue (lt (getD in-order j nan) y) (λ u. apart (getD in-order j nan) y u (up .ordered c j i z))) in
+      is-kth l k y (omega (arith, same (λ x. le x y))) (omega (arith, same (λ x. lt x y)))
+
+  -- the sum by which the bandwidth is found
+  abbrev chosen : ℕ → Float
+  chosen k = kthSmallest l (length l) k g
+
+  record Chosen (k : ℕ) : Type 0 where
+    from-zero : T (fromZero (chosen k))
+    kth : kthOf k all ≡ root (chosen k)
+
+  -- k were met
+  many : (k : ℕ) → 1 ≤ k → k ≤ length l → Chosen k
+  many k o h = go (kth-found l (length l) k g)
+    where
+      go : Found l (length l) k g (chosen k) → Chosen k
+      go (none a b) = absurd (subst T (a (getD in-order (k - 1) nan)) (some-kth k o h))
+      go (one j i is t) =
+          let z : T (fromZero (chosen k)) = subst (λ (x : Float). T (fromZero x)) (sym is) (amount-every fromZero l (top .each) j i) in
+          let m : min k (length all) ≡ k = min-eq-left (omega (arith, as-many)) in
+          record { from-zero = z; kth = ap (λ (c : ℕ). getD all (c - 1) zero64) m ∙ the-kth (chosen k) z k t }
+
+  -- fewer, but some
+  fewer-met : (k : ℕ) → 0 < length l → length l < k → Chosen k
+  fewer-met k o h =
+      let is : g ≡ chosen k = kth-none l (length l) k g h in
+      let last : T (isKth l (length l) (length l) g) = is-kth l (length l) g (top .most) (top .met o) in
+      let m : min k (length all) ≡ length l = min-eq-right (omega (arith, as-many)) ∙ sym as-many in
+      record {
+        from-zero = subst (λ (x : Float). T (fromZero x)) is (top .from-zero);
+        kth = ap (λ (c : ℕ). getD all (c - 1) zero64) m ∙ the-kth g (top .from-zero) (length l) last ∙ ap root is;
+      }
+
+  -- nobody
+  nobody-met : (k : ℕ) → 1 ≤ k → length l ≡ 0 → Chosen k
+  nobody-met k o h =
+      let is : g ≡ chosen k = kth-none l (length l) k g (omega arith) in
+      let at : zero64 ≡ chosen k = sym (top .none h) ∙ is in
+      record {
+        from-zero = subst (λ (x : Float). T (fromZero x)) is (top .from-zero);
+        kth = List·getD-eq-default all zero64 (omega (arith, as-many)) ∙ zero-root ∙ ap root at;
+      }
+
+  the-chosen : (k : ℕ) → 1 ≤ k → Chosen k
+  the-chosen k o =
+      elim (here-or-on (length l) k) [
+        | inr h ↦ many k o h
+        | inl h ↦ elim (here-or-on 0 (length l)) [ inl p ↦ fewer-met k p h | inr p ↦ nobody-met k o (omega arith) ]
+      ]
+
+  pub nearest-is-kth : (k : ℕ) → 1 ≤ k → nearestFrom coords n east north own k ≡ kthNearest own d n k
+  unfolding nearestFrom foundBy widthOf kthNearest
+  nearest-is-kth k o =
+      let c = the-chosen k o in
+      let v = chosen k in
+      let top-is = greatest-root own s d n sum-ok root-is in
+      sym
+      (ap (λ (b : Float). cond (lt zero64 b) b (greater (greatestMet own d n) eps64)) (c .kth)
+      ∙ ap (λ (b : Bool). cond b (root v) (greater (greatestMet own d n) eps64)) (above-root v (held v (c .from-zero)) (above v (c .from-zero)))
+      ∙ ap (λ (x : Float). cond (lt zero64 v) (root v) (greater x eps64)) top-is)

@@ -18,10 +18,6 @@ unfoldable pub insert : Float → List Float → List Float
 unfolding rankOf
 insert x l = let p = rankOf x l (length l) in take p l ++ x ∷ drop p l
 
--- the numbers from p up to n moved up by one; what stands at p stays
-unfoldable pub moveUp : List Float → ℕ → ℕ → List Float
-moveUp l p n = take (suc p) l ++ (drop p (take n l) ++ drop (suc n) l)
-
 -- ---- an example
 
 module _ where

@@ -2,4 +2,3 @@ pub mod Insert
 pub mod Walk
 pub mod Bandwidth
 pub mod Smallest
-pub mod Sums

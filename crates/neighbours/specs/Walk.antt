@@ -1,67 +1,72 @@
--- A walk over pantries: the k smallest of the distances met, in order, and the greatest. Definitions, and examples.
+-- A walk over pantries: the sums of squares met, in order, and the greatest of them; what it gives wherever it is stopped. Definitions, and examples.
 use mathlib.Core.Path.{_≡_, refl}
 use mathlib.Core.Bool.{Bool, false, cond}
-use mathlib.Core.List.{List, [], _∷_}
-use Prim.Native.Nat.{ℕ, _+_, _-_, _*_}
-use lib.Dec.{eqb, ltb}
+use mathlib.Core.List.{List, [], _∷_, _++_}
+use Prim.Native.Nat.{ℕ, _+_, _*_}
+use lib.Dec.{eqb}
 use lib.IntN.{pos}
-use lib.ListN.{length, take, getD}
+use lib.ListN.{length, take, drop, getD}
 use lib.Ieee.{Float, nan, binary64, lt, ofBits, ofInt}
 use Rattle.real.specs.Fold.{range}
 use Rattle.real.specs.Reals.{zero64, greater, eps64}
-use Rattle.kernel.specs.Weight.{distanceOf}
+use Rattle.root.specs.Root.{root}
+use Rattle.kernel.specs.Weight.{squaresOf, distanceOf}
+use Rattle.selection.specs.Kth.{kthSmallest}
 use Rattle.neighbours.specs.declared.Own.{Own}
 use Rattle.neighbours.specs.declared.Own.the-variants.{At, Nobody}
-use Rattle.neighbours.specs.Insert.{insert}
 
--- how far a walk has come: the distances kept, and the greatest met
+-- how far a walk has come: the sums of squares of the pantries met, in order, and the greatest of them
 pub record Walk : Type 0 where
-  pub kept : List Float
+  pub sums : List Float
   pub greatest : Float
 
 -- nothing met
 abbrev pub unmet : Walk
-unmet = record { kept = []; greatest = zero64 }
+unmet = record { sums = []; greatest = zero64 }
 
--- d kept among the k smallest, l those so far: inserted while fewer are held, else in place of the last where it is smaller
-unfoldable pub keep : ℕ → Float → List Float → List Float
-unfolding insert lt
-keep k d l = cond (ltb (length l) k) (insert d l) (cond (lt d (getD l (k - 1) nan)) (insert d (take (k - 1) l)) l)
+-- one pantry met, whose sum of squares is s
+unfoldable pub meet : Float → Walk → Walk
+unfolding greater
+meet s w = record { sums = w .sums ++ s ∷ []; greatest = greater (w .greatest) s }
 
--- one pantry met, at distance d
-unfoldable pub meet : ℕ → Float → Walk → Walk
-unfolding keep greater
-meet k d w = record { kept = keep k d (w .kept); greatest = greater (w .greatest) d }
-
--- what the walk gives when stopped: the last distance kept, or where that is zero or missing the greater of the greatest met and 2 ^ -52
-unfoldable pub foundBy : Walk → Float
-unfolding lt greater
-foundBy w = let b = getD (w .kept) (length (w .kept) - 1) zero64 in cond (lt zero64 b) b (greater (w .greatest) eps64)
-
--- whether pantry j is the walk's own, which is left out
+-- whether pantry j is the walk's own, which is left out; a place that is no pantry leaves out none
 unfoldable pub isOwn : Own → ℕ → Bool
 isOwn (At i) j = eqb i j
 isOwn Nobody j = false
 
--- the walk with pantry j met, which is d j away, unless it is its own
-unfoldable pub pass : Own → (ℕ → Float) → ℕ → ℕ → Walk → Walk
+-- the walk with pantry j met, whose sum is s j, unless it is its own
+unfoldable pub pass : Own → (ℕ → Float) → ℕ → Walk → Walk
 unfolding isOwn meet
-pass own d k j w = cond (isOwn own j) w (meet k (d j) w)
+pass own s j w = cond (isOwn own j) w (meet (s j) w)
 
 -- the walk taken on over the pantries a to b - 1
-unfoldable pub walkOn : Own → (ℕ → Float) → ℕ → ℕ → ℕ → Walk → Walk
+unfoldable pub walkOn : Own → (ℕ → Float) → ℕ → ℕ → Walk → Walk
 unfolding range pass
-walkOn own d k a b w = range (pass own d k) a b w
+walkOn own s a b w = range (pass own s) a b w
 
--- the distance from the place (east, north) to pantry j
+-- the bandwidth by a sum of squares: its root, or where it is zero the greater of the root of the greatest, g, and 2 ^ -52
+unfoldable pub widthOf : Float → Float → Float
+unfolding lt root greater
+widthOf g s = cond (lt zero64 s) (root s) (greater (root g) eps64)
+
+-- what the walk gives for a count k when stopped: the bandwidth by the k-th smallest sum, by the greatest where fewer were met
+unfoldable pub foundBy : ℕ → Walk → Float
+unfolding widthOf kthSmallest
+foundBy k w = widthOf (w .greatest) (kthSmallest (w .sums) (length (w .sums)) k (w .greatest))
+
+-- the sum of squares from the place (east, north) to pantry j, and its root, the distance
+unfoldable pub squaresFrom : List Float → Float → Float → ℕ → Float
+unfolding squaresOf
+squaresFrom coords east north j = squaresOf east north (getD coords (2 * j) nan) (getD coords (2 * j + 1) nan)
+
 unfoldable pub distanceFrom : List Float → Float → Float → ℕ → Float
 unfolding distanceOf
 distanceFrom coords east north j = distanceOf east north (getD coords (2 * j) nan) (getD coords (2 * j + 1) nan)
 
--- the k-th smallest distance from a place to n pantries, its own left out
+-- the k-th smallest distance from a place to the first n pantries, its own left out
 unfoldable pub nearestFrom : List Float → ℕ → Float → Float → Own → ℕ → Float
-unfolding foundBy walkOn distanceFrom
-nearestFrom coords n east north own k = foundBy (walkOn own (distanceFrom coords east north) k 0 n unmet)
+unfolding foundBy walkOn squaresFrom
+nearestFrom coords n east north own k = foundBy k (walkOn own (squaresFrom coords east north) 0 n unmet)
 
 -- a location is a place that is a pantry: its distances, and the k-th smallest of those to the others
 abbrev pub between : List Float → ℕ → ℕ → Float
@@ -70,22 +75,18 @@ between coords i = distanceFrom coords (getD coords (2 * i) nan) (getD coords (2
 abbrev pub nearestOf : List Float → ℕ → ℕ → ℕ → Float
 nearestOf coords n i k = nearestFrom coords n (getD coords (2 * i) nan) (getD coords (2 * i + 1) nan) (At i) k
 
--- ---- a walk whose distances stand at the front of a lent buffer
-
--- the buffer's first r numbers are the list l, and it is as long as before
-pub record Keeps (l entry exit : List Float) (r : ℕ) : Type 0 where
-  pub list : take r exit ≡ l
-  pub count : r ≡ length l
-  pub long : length exit ≡ length entry
-
--- the same of a walk, whose greatest is g
-pub record Walked (w : Walk) (entry exit : List Float) (held : ℕ) (g : Float) : Type 0 where
-  pub kept : Keeps (w .kept) entry exit held
-  pub greatest : g ≡ w .greatest
+-- ---- a walk whose sums stand at the front of a lent buffer
 
 -- the walk that a buffer's first numbers and a greatest are
 abbrev pub walkIn : List Float → ℕ → Float → Walk
-walkIn buffer held g = record { kept = take held buffer; greatest = g }
+walkIn buffer met g = record { sums = take met buffer; greatest = g }
+
+-- the buffer holds the walk w in its first numbers and what it held before in the others; so many were met, and the greatest is g
+pub record Holds (w : Walk) (entry exit : List Float) (met : ℕ) (g : Float) : Type 0 where
+  pub sums : exit ≡ w .sums ++ drop met entry
+  pub count : met ≡ length (w .sums)
+  pub greatest : g ≡ w .greatest
+  pub long : length exit ≡ length entry
 
 -- ---- examples
 
@@ -97,26 +98,26 @@ module _ where
   abbrev four : List Float
   four = whole 0 ∷ whole 0 ∷ whole 3 ∷ whole 4 ∷ whole 6 ∷ whole 8 ∷ whole 0 ∷ whole 1 ∷ []
 
-  second : walkOn (At 0) (between four 0) 2 0 4 unmet ≡ record { kept = whole 1 ∷ whole 5 ∷ []; greatest = whole 10 }
-  unfolding walkOn distanceFrom ofInt ofBits lt
-  second = refl
+  abbrev fromFirst : Own → ℕ → Walk
+  fromFirst own m = walkOn own (squaresFrom four (whole 0) (whole 0)) 0 m unmet
 
-  -- among the first three alone
-  early : walkOn (At 0) (between four 0) 2 0 3 unmet ≡ record { kept = whole 5 ∷ whole 10 ∷ []; greatest = whole 10 }
-  unfolding walkOn distanceFrom ofInt ofBits lt
-  early = refl
+  -- the first pantry's walk, and what it gives for counts 1, 2, 3 and 9
+  others : fromFirst (At 0) 4 ≡ record { sums = whole 25 ∷ whole 100 ∷ whole 1 ∷ []; greatest = whole 100 }
+  unfolding walkOn squaresFrom ofInt ofBits lt
+  others = refl
 
-  -- nobody left out
-  place : walkOn Nobody (between four 0) 2 0 4 unmet ≡ record { kept = whole 0 ∷ whole 1 ∷ []; greatest = whole 10 }
-  unfolding walkOn distanceFrom ofInt ofBits lt
-  place = refl
+  inOrder :
+      let w = fromFirst (At 0) 4 in
+      (foundBy 1 w ≡ whole 1) × (foundBy 2 w ≡ whole 5) × (foundBy 3 w ≡ whole 10) × (foundBy 9 w ≡ whole 10)
+  unfolding foundBy walkOn squaresFrom ofInt ofBits
+  inOrder = (refl, refl, refl, refl)
 
-  -- the last one where there are fewer than k
-  last : nearestOf four 4 0 9 ≡ whole 10
-  unfolding nearestFrom ofInt ofBits lt
-  last = refl
-
-  -- no other
-  alone : nearestOf (whole 0 ∷ whole 0 ∷ []) 1 0 1 ≡ eps64
-  unfolding nearestFrom ofInt ofBits lt
-  alone = refl
+  -- stopped after three, after two, and after itself alone; nobody left out
+  early :
+      (foundBy 2 (fromFirst (At 0) 3) ≡ whole 10)
+      × (foundBy 2 (fromFirst (At 0) 2) ≡ whole 5)
+      × (foundBy 2 (fromFirst (At 0) 1) ≡ eps64)
+      × (foundBy 2 (fromFirst Nobody 4) ≡ whole 1)
+      × (foundBy 1 (fromFirst Nobody 4) ≡ whole 10)
+  unfolding foundBy walkOn squaresFrom ofInt ofBits
+  early = (refl, refl, refl, refl, refl)

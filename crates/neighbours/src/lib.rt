@@ -1,20 +1,21 @@
-// A location's bandwidth, the k-th smallest distance to the others.
+// A location's bandwidth: the k-th smallest distance to the others, by one walk over the pantries.
 //
-// The root keeps order, so `nearest_from` selects the k-th smallest sum of squares by counting, and takes one root. Where that sum
-// is zero, infinite or not found, or any is NaN, `walked` walks over the pantries and keeps the k smallest distances in order, and
-// the greatest.
+// The walk gathers sums of squares. The root keeps order, so the k-th smallest of them gives the k-th smallest distance, with one
+// root in all.
 ghost use mathlib.Core.Path.{_≡_};
 ghost use Prim.Native.Nat.{_*_, _≤_, _<_};
 ghost use lib.ListN.{length};
 ghost use Rattle.setup.specs.Bandwidth.{Usable};
 ghost use Rattle.neighbours.specs.Walk.{nearestFrom};
-ghost use Rattle.neighbours.specs.Sums.{OwnBelow};
 ghost use Rattle.neighbours.specs.Bandwidth.{localBandwidthDistance};
 use setup::GwrBandwidth;
 
-mod insert;
-mod sums;
 mod walk;
+
+pub use walk::Walker;
+pub use walk::begin;
+pub use walk::found_by;
+pub use walk::walk_on;
 
 // The pantry that stands at the place itself and is left out, if it is one.
 pub enum Own {
@@ -22,18 +23,14 @@ pub enum Own {
     Nobody,
 }
 
-// The k-th smallest distance from (east, north) to n pantries, its own left out: the root of the k-th smallest sum of squares, or
-// what the walk gives.
+// The k-th smallest distance from (east, north) to n pantries, its own left out.
 pub fn nearest_from(coords: &[f64], n: usize, east: f64, north: f64, own: Own, k: usize) -> f64
-    requires { ⌜ (length (now coords) ≡ 2 * n) × (n ≤ 512) × (1 ≤ k) × (k ≤ 512) ⌝ }
-    requires { ⌜ OwnBelow n own ⌝ }
+    requires { ⌜ (length (now coords) ≡ 2 * n) × (n ≤ 512) ⌝ }
     ensures { λ r. ⌜ r ≡ nearestFrom (now (coords .entry)) n east north own k ⌝ }
 {
-    let v = sums::kth_sum(coords, n, east, north, own, k);
-    if v > 0.0 {
-        return root::sqrt(v);
-    }
-    walk::walked(coords, n, east, north, own, k)
+    let mut sums = [0.0; 512];
+    let w = walk::walk_on(walk::begin(), coords, 0, n, east, north, own, &mut sums);
+    walk::found_by(w, &sums, k)
 }
 
 // 000's `local_bandwidth_distance`.

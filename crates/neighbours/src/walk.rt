@@ -1,70 +1,26 @@
-// The walk over the pantries: right for every input, stopped and taken up anywhere, and slow. The distances that it keeps stand
-// at the front of a lent buffer.
+// The walk over the pantries, each met once: its sums of squares stand at the front of a lent buffer, in order, and how many they
+// are and the greatest of them in a value. It can be stopped and asked anywhere, and taken up again from there.
 ghost use mathlib.Core.Path.{_≡_};
 ghost use Prim.Native.Nat.{_+_, _-_, _*_, _≤_, _<_};
-ghost use lib.ListN.{length, take, getD};
+ghost use lib.ListN.{length};
 ghost use Rattle.real.specs.Reals.{zero64};
-ghost use Rattle.neighbours.specs.Walk.{Keeps, Walked, keep, meet, foundBy, isOwn, pass, walkOn, distanceFrom, nearestFrom, walkIn};
+ghost use Rattle.neighbours.specs.Walk.{Holds, isOwn, pass, walkOn, foundBy, squaresFrom, walkIn};
 use crate::Own;
-use crate::insert;
 
-// How far a walk has come: how many distances are kept, and the greatest of all that it met.
+// How far a walk has come: how many sums stand in its buffer, and the greatest of them.
 pub struct Walker {
-    pub held: usize,
+    pub met: usize,
     pub greatest: f64,
 }
 
-// Keeps d among the k smallest, of which there are `held` so far; answers how many there are then.
-fn keep(kept: &mut [f64], held: usize, k: usize, d: f64) -> usize
-    requires { ⌜ (1 ≤ k) × (k ≤ length (now kept)) × (held ≤ k) ⌝ }
-    ensures { λ r. ⌜ Keeps (keep k d (take held (now (kept .entry)))) (now (kept .entry)) (now (kept .exit)) r ⌝ }
+// A walk that has met nobody.
+pub fn begin() -> Walker
+    ensures { λ r. ⌜ (r .met ≡ 0) × (r .greatest ≡ zero64) ⌝ }
 {
-    if held < k {
-        insert::insert(&mut *kept, held, d);
-        return held + 1;
-    }
-    let last = k - 1;
-    if d < kept[last] {
-        insert::insert(&mut *kept, last, d);
-        return held;
-    }
-    held
-}
-
-// The walk with one more pantry met, at distance d.
-fn meet(w: Walker, kept: &mut [f64], k: usize, d: f64) -> Walker
-    requires { ⌜ (1 ≤ k) × (k ≤ length (now kept)) × (w .held ≤ k) ⌝ }
-    ensures { λ r. ⌜ Walked (meet k d (walkIn (now (kept .entry)) (w .held) (w .greatest))) (now (kept .entry)) (now (kept .exit)) (r .held) (r .greatest) ⌝ }
-{
-    let held = w.held;
-    let next = keep(kept, held, k, d);
     Walker {
-        held: next,
-        greatest: real::max(w.greatest, d),
+        met: 0,
+        greatest: 0.0,
     }
-}
-
-// The last distance kept, and 0 where there is none.
-fn last_kept(kept: &[f64], held: usize) -> f64
-    requires { ⌜ held ≤ length (now kept) ⌝ }
-    ensures { λ r. ⌜ r ≡ getD (take held (now (kept .entry))) (held - 1) zero64 ⌝ }
-{
-    if held == 0 {
-        return 0.0;
-    }
-    kept[held - 1]
-}
-
-// What a walk gives when stopped: the last distance kept, or where that is zero or missing the greatest of all and EPS.
-fn found_by(w: Walker, kept: &[f64]) -> f64
-    requires { ⌜ w .held ≤ length (now kept) ⌝ }
-    ensures { λ r. ⌜ r ≡ foundBy (walkIn (now (kept .entry)) (w .held) (w .greatest)) ⌝ }
-{
-    let b = last_kept(kept, w.held);
-    if b > 0.0 {
-        return b;
-    }
-    real::max(w.greatest, 2.220446049250313e-16)
 }
 
 // Whether pantry j is the walk's own.
@@ -81,26 +37,29 @@ fn is_own(own: Own, j: usize) -> bool
 fn pass(
     w: Walker,
     coords: &[f64],
+    j: usize,
     east: f64,
     north: f64,
     own: Own,
-    j: usize,
-    k: usize,
-    kept: &mut [f64],
+    sums: &mut [f64; 512],
 ) -> Walker
-    requires { ⌜ 2 * j + 1 < length (now coords) ⌝ }
-    requires { ⌜ (1 ≤ k) × (k ≤ length (now kept)) × (w .held ≤ k) ⌝ }
-    ensures { λ r. ⌜ Walked (pass own (distanceFrom (now (coords .entry)) east north) k j (walkIn (now (kept .entry)) (w .held) (w .greatest))) (now (kept .entry)) (now (kept .exit)) (r .held) (r .greatest) ⌝ }
+    requires { ⌜ (2 * j + 1 < length (now coords)) × (w .met < 512) × (length (now sums) ≡ 512) ⌝ }
+    ensures { λ r. ⌜ Holds (pass own (squaresFrom (now (coords .entry)) east north) j (walkIn (now (sums .entry)) (w .met) (w .greatest))) (now (sums .entry)) (now (sums .exit)) (r .met) (r .greatest) ⌝ }
 {
     if is_own(own, j) {
         return w;
     }
-    let d = kernel::distance(east, north, coords[2 * j], coords[2 * j + 1]);
-    meet(w, kept, k, d)
+    let at = w.met;
+    let s = kernel::squares(east, north, coords[2 * j], coords[2 * j + 1]);
+    sums[at] = s;
+    Walker {
+        met: at + 1,
+        greatest: real::max(w.greatest, s),
+    }
 }
 
 // The walk from (east, north) taken on over the pantries `from` to `to` - 1.
-fn walk_on(
+pub fn walk_on(
     start: Walker,
     coords: &[f64],
     from: usize,
@@ -108,30 +67,28 @@ fn walk_on(
     east: f64,
     north: f64,
     own: Own,
-    k: usize,
-    kept: &mut [f64],
+    sums: &mut [f64; 512],
 ) -> Walker
-    requires { ⌜ (from ≤ to) × (2 * to ≤ length (now coords)) × (to ≤ 512) ⌝ }
-    requires { ⌜ (1 ≤ k) × (k ≤ length (now kept)) × (start .held ≤ k) ⌝ }
-    ensures { λ r. ⌜ Walked (walkOn own (distanceFrom (now (coords .entry)) east north) k from to (walkIn (now (kept .entry)) (start .held) (start .greatest))) (now (kept .entry)) (now (kept .exit)) (r .held) (r .greatest) ⌝ }
+    requires { ⌜ (from ≤ to) × (2 * to ≤ length (now coords)) × (start .met + (to - from) ≤ 512) ⌝ }
+    requires { ⌜ length (now sums) ≡ 512 ⌝ }
+    ensures { λ r. ⌜ Holds (walkOn own (squaresFrom (now (coords .entry)) east north) from to (walkIn (now (sums .entry)) (start .met) (start .greatest))) (now (sums .entry)) (now (sums .exit)) (r .met) (r .greatest) ⌝ }
 {
     let mut w = start;
     for j in from..to {
-        w = pass(w, coords, east, north, own, j, k, &mut *kept);
+        w = pass(w, coords, j, east, north, own, &mut *sums);
     }
     w
 }
 
-// The k-th smallest distance from (east, north) to n pantries, by a walk over all of them.
-pub fn walked(coords: &[f64], n: usize, east: f64, north: f64, own: Own, k: usize) -> f64
-    requires { ⌜ (length (now coords) ≡ 2 * n) × (n ≤ 512) × (1 ≤ k) × (k ≤ 512) ⌝ }
-    ensures { λ r. ⌜ r ≡ nearestFrom (now (coords .entry)) n east north own k ⌝ }
+// What a walk gives for a count k when stopped: the root of the k-th smallest sum, of the greatest where fewer were met; where that
+// is zero, or nobody was met, the greater of the greatest distance and EPS.
+pub fn found_by(w: Walker, sums: &[f64; 512], k: usize) -> f64
+    requires { ⌜ (w .met ≤ 512) × (length (now sums) ≡ 512) ⌝ }
+    ensures { λ r. ⌜ r ≡ foundBy k (walkIn (now (sums .entry)) (w .met) (w .greatest)) ⌝ }
 {
-    let mut kept = [0.0; 512];
-    let start = Walker {
-        held: 0,
-        greatest: 0.0,
-    };
-    let w = walk_on(start, coords, 0, n, east, north, own, k, &mut kept);
-    found_by(w, &kept)
+    let s = selection::select(sums, w.met, k, w.greatest);
+    if s > 0.0 {
+        return root::sqrt(s);
+    }
+    real::max(root::sqrt(w.greatest), 2.220446049250313e-16)
 }

@@ -186,3 +186,35 @@ one-only (fin false m e) (fin false n d) f g p q h k =
     sym (ofBits-toBits binary64 x f)
     ∙ ap (ofBits binary64) (same-bits m n e d (le-antisymm (cross x y tt tt h) (cross y x tt tt k)))
     ∙ ofBits-toBits binary64 y g
+
+-- ---- the root goes by the value: two numbers above zero that are at most one another have one root
+root-inside : (x : Float) → T (nonneg x) → T (lt zero64 x) → T (lt x inf64) → root x ≡ rootUnits (inUnits x)
+unfolding root ofBits
+root-inside x p a b = rw (not-below x p, is-true (lt zero64 x) a, is-true (lt x inf64) b)
+
+pub root-level : (x y : Float) → T (nonneg x) → T (nonneg y) → T (lt zero64 x) → T (lt zero64 y) → T (le x y) → T (le y x) → root x ≡ root y
+unfolding le lt inUnits
+root-level nan y p q a b h k = absurd p
+root-level (inf true) y p q a b h k = absurd p
+root-level (inf false) nan p q a b h k = absurd q
+root-level (inf false) (inf true) p q a b h k = absurd q
+root-level (inf false) (inf false) p q a b h k = refl
+root-level (inf false) (fin t n d) p q a b h k = absurd h
+root-level (fin true m e) y p q a b h k = absurd p
+root-level (fin false m e) nan p q a b h k = absurd q
+root-level (fin false m e) (inf true) p q a b h k = absurd q
+root-level (fin false m e) (inf false) p q a b h k = absurd k
+root-level (fin false m e) (fin true n d) p q a b h k = absurd q
+root-level (fin false m e) (fin false n d) p q a b h k =
+    let x = fin false m e in
+    let y = fin false n d in
+    root-inside x tt a tt ∙ ap rootUnits (same-units m n e d (le-antisymm (cross x y tt tt h) (cross y x tt tt k))) ∙ sym (root-inside y tt b tt)
+
+-- the root is above zero exactly where its number is
+pub above-root : (x : Float) → T (fits binary64 x) → T (nonneg x) → lt zero64 (root x) ≡ lt zero64 x
+above-root x f p =
+    by-truth (lt zero64 x && lt x inf64)
+    (λ t.
+    let a = and-l (lt zero64 x) (lt x inf64) t in
+    is-true (lt zero64 (root x)) (root-above x f a (and-r (lt zero64 x) (lt x inf64) t)) ∙ sym (is-true (lt zero64 x) a))
+    (λ t. ap (lt zero64) (root-ends x p (is-false (lt zero64 x && lt x inf64) t)))

@@ -1,9 +1,8 @@
 -- A tally of a test: as many turns, the more that pass, and all. Assumes nothing.
 use mathlib.Core.Path.{_≡_, refl, sym, ap, subst}
-use mathlib.Core.Bool.{Bool, true, false, cond}
-use mathlib.Core.Logic.{inl, inr}
+use mathlib.Core.Bool.{Bool, true, false, not, cond}
 use Prim.Native.Nat.{ℕ, zero, suc, _+_, _-_, _≤_, _<_}
-use native.Mathlib.Nat.{not-suc-le-zero, eq-or-lt-of-le}
+use native.Mathlib.Nat.{not-suc-le-zero, le-antisymm}
 use native.Mathlib.Omega.{arith}
 use lib.Dec.{T}
 use Rattle.real.specs.Fold.{turns, range}
@@ -29,6 +28,30 @@ module _ (p q : ℕ → Bool) where
   unfolding tally range
   tally-mono n h = turns-mono (n - 0) n (omega arith) h
 
+  -- where a tally is greater, a place makes it so
+  turns-more : (n : ℕ) → turns (tallyStep q) 0 n 0 < turns (tallyStep p) 0 n 0 → (j : ℕ) × (j < n) × T (p j) × T (not (q j))
+  unfolding turns tallyStep
+  turns-more zero h = absurd (not-suc-le-zero h)
+  turns-more (suc n) h = go (p (0 + n)) (q (0 + n)) refl refl (turns-more n) h
+    where
+      later : (j : ℕ) × (j < n) × T (p j) × T (not (q j)) → (j : ℕ) × (j < suc n) × T (p j) × T (not (q j))
+      later f = (f .0, omega (arith, f .1), f .2, f .3)
+
+      go : (b c : Bool) → p (0 + n) ≡ b → q (0 + n) ≡ c → (turns (tallyStep q) 0 n 0 < turns (tallyStep p) 0 n 0 → (j : ℕ) × (j < n) × T (p j) × T (not (q j)))
+          → cond c (turns (tallyStep q) 0 n 0 + 1) (turns (tallyStep q) 0 n 0) < cond b (turns (tallyStep p) 0 n 0 + 1) (turns (tallyStep p) 0 n 0)
+          → (j : ℕ) × (j < suc n) × T (p j) × T (not (q j))
+      go true false e f again k = (0 + n, omega arith, subst T (sym e) tt, subst (λ (c : Bool). T (not c)) (sym f) tt)
+      go true true e f again k = later (again (omega arith))
+      go false true e f again k = later (again (omega arith))
+      go false false e f again k = later (again k)
+
+  pub tally-more : (n : ℕ) → tally q n < tally p n → (j : ℕ) × (j < n) × T (p j) × T (not (q j))
+  tally-more n h = let a = tally-turns p n in let b = tally-turns q n in turns-more n (omega arith)
+
+-- a tally sees its test below n only
+pub tally-same : (p q : ℕ → Bool) (n : ℕ) → ((j : ℕ) → j < n → p j ≡ q j) → tally p n ≡ tally q n
+tally-same p q n h = le-antisymm (tally-mono p q n (λ j k t. subst T (h j k) t)) (tally-mono q p n (λ j k t. subst T (sym (h j k)) t))
+
 module _ (p : ℕ → Bool) where
   turns-most : (n : ℕ) → turns (tallyStep p) 0 n 0 ≤ n
   unfolding turns tallyStep
@@ -39,26 +62,6 @@ module _ (p : ℕ → Bool) where
       go true r = omega arith
       go false r = omega arith
 
-  turns-every : (n : ℕ) → n ≤ turns (tallyStep p) 0 n 0 → (j : ℕ) → j < n → T (p j)
-  unfolding turns tallyStep
-  turns-every zero h j k = absurd (not-suc-le-zero k)
-  turns-every (suc n) h j k = go (p (0 + n)) refl (turns-every n) h
-    where
-      at-most-n : j ≤ n
-      at-most-n = omega arith
-
-      turned : j ≡ n → 0 + n ≡ j
-      turned s = omega arith
-
-      go : (b : Bool) → p (0 + n) ≡ b → (n ≤ turns (tallyStep p) 0 n 0 → (j : ℕ) → j < n → T (p j))
-          → suc n ≤ cond b (turns (tallyStep p) 0 n 0 + 1) (turns (tallyStep p) 0 n 0) → T (p j)
-      go true e again m =
-          elim (eq-or-lt-of-le at-most-n) [
-            | inl s ↦ subst (λ (c : ℕ). T (p c)) (turned s) (subst T (sym e) tt)
-            | inr g ↦ again (omega arith) j g
-          ]
-      go false e again m = absurd (not-suc-le-zero {n = 0} (omega (arith, turns-most n)))
-
-  -- a tally of all is of each
-  pub tally-every : (n : ℕ) → n ≤ tally p n → (j : ℕ) → j < n → T (p j)
-  tally-every n e j h = let s = tally-turns p n in turns-every n (omega arith) j h
+  -- no more than there are places
+  pub tally-most : (n : ℕ) → tally p n ≤ n
+  tally-most n = let s = tally-turns p n in omega (arith, turns-most n)

@@ -1,13 +1,13 @@
-// The m-th smallest of some numbers, by counting: how many are at most a number, and how many below it.
+// Which of some numbers is the m-th smallest, by counting: how many are at most a number, and how many below it.
 ghost use mathlib.Core.Path.{_≡_};
+ghost use mathlib.Core.Bool.{cond};
+ghost use mathlib.Core.Logic.{_⊎_};
 ghost use Prim.Native.Nat.{_≤_};
 ghost use lib.Dec.{T};
-ghost use lib.Ieee.{lt};
-ghost use Rattle.real.specs.Reals.{zero64};
-ghost use Rattle.selection.specs.Kth.{atMost, fewer, isKth};
+ghost use Rattle.selection.specs.Kth.{atMost, fewer, isKth, kthSmallest};
 
 // How many of the first n of s are at most v.
-pub fn at_most(s: &[f64; 512], n: usize, v: f64) -> usize
+fn at_most(s: &[f64; 512], n: usize, v: f64) -> usize
     requires { ⌜ n ≤ 512 ⌝ }
     ensures { λ r. ⌜ r ≡ atMost (now (s .entry)) n v ⌝ }
 {
@@ -45,40 +45,76 @@ fn is_kth(s: &[f64; 512], n: usize, m: usize, v: f64) -> bool
     false
 }
 
-// Where a number is looked for: from lo on, and below hi. `narrow`, `middle` and `greatest_below` claim nothing of what they
-// answer, since `select` judges what comes of it.
+// Where a number is looked for: from lo on and below hi, and how many numbers are below either. What makes and narrows a bracket
+// claims nothing of it, since `select` judges what comes of it.
 struct Bracket {
     lo: f64,
+    below_lo: f64,
     hi: f64,
+    below_hi: f64,
 }
 
-// The middle between lo and hi, or a step up from lo where there is no end yet.
-fn middle(lo: f64, hi: f64, first: f64) -> f64 {
-    if hi < real::infinity() {
-        return 0.5 * (lo + hi);
-    }
-    4.0 * lo + first
-}
-
-// The bracket halved up to 16 times, until m of the first n of s are below its end.
-fn narrow(s: &[f64; 512], n: usize, m: usize, from: f64, to: f64, first: f64) -> Bracket
+// The bracket of n numbers from 0 to top, with a little more, so that top is below its end.
+fn whole(n: usize, top: f64) -> Bracket
     requires { ⌜ n ≤ 512 ⌝ }
 {
-    let mut lo = from;
-    let mut hi = to;
+    Bracket {
+        lo: 0.0,
+        below_lo: 0.0,
+        hi: 1.0625 * top,
+        below_hi: real::from_count(n),
+    }
+}
+
+// The bracket from x on, which so many are below.
+fn raised(b: Bracket, x: f64, below: f64) -> Bracket {
+    Bracket {
+        lo: x,
+        below_lo: below,
+        hi: b.hi,
+        below_hi: b.below_hi,
+    }
+}
+
+// The bracket that ends at x, which so many are below.
+fn ended(b: Bracket, x: f64, below: f64) -> Bracket {
+    Bracket {
+        lo: b.lo,
+        below_lo: b.below_lo,
+        hi: x,
+        below_hi: below,
+    }
+}
+
+// Where a bracket is cut for a number that `rank` are below: in proportion to the counts, since squares of distances spread about
+// evenly over a plane; every third time in the middle, so that it gets narrow however they spread.
+fn part(b: Bracket, rank: f64, t: u64) -> f64 {
+    if t % 3 == 2 {
+        return 0.5 * (b.lo + b.hi);
+    }
+    b.lo + (b.hi - b.lo) * ((rank - b.below_lo) / (b.below_hi - b.below_lo))
+}
+
+// The bracket cut up to 16 times, until m of the first n of s are below its end.
+fn narrow(s: &[f64; 512], n: usize, m: usize, from: Bracket) -> Bracket
+    requires { ⌜ (n ≤ 512) × (m ≤ n) ⌝ }
+{
+    let rank = real::from_count(m) + 0.5;
+    let mut b = from;
     for t in 0..16u64 {
-        let mid = middle(lo, hi, first);
-        let c = fewer(s, n, mid);
+        let at = part(b, rank, t);
+        let c = fewer(s, n, at);
+        let below = real::from_count(c);
         if c == m {
-            return Bracket { lo, hi: mid };
+            return ended(b, at, below);
         }
         if c < m {
-            lo = mid;
+            b = raised(b, at, below);
         } else {
-            hi = mid;
+            b = ended(b, at, below);
         }
     }
-    Bracket { lo, hi }
+    b
 }
 
 // x, or 0 from hi on.
@@ -86,35 +122,67 @@ fn cut(x: f64, hi: f64) -> f64 {
     if x < hi { x } else { 0.0 }
 }
 
-// The greatest of the first n of s that is below hi, and 0 where none is.
+// The greatest of the first n of s that is below hi, and 0 where none is. Four at a time, since each waits for the one before; so up
+// to three numbers behind them are looked at as well, which may cost time and no more.
 fn greatest_below(s: &[f64; 512], n: usize, hi: f64) -> f64
     requires { ⌜ n ≤ 512 ⌝ }
 {
-    let mut g = 0.0;
-    for j in 0..n {
-        g = real::max(g, cut(s[j], hi));
+    let mut a = 0.0;
+    let mut b = 0.0;
+    let mut c = 0.0;
+    let mut d = 0.0;
+    let quarters = (n + 3) / 4;
+    for q in 0..quarters {
+        let j = 4 * q;
+        a = real::max(a, cut(s[j], hi));
+        b = real::max(b, cut(s[j + 1], hi));
+        c = real::max(c, cut(s[j + 2], hi));
+        d = real::max(d, cut(s[j + 3], hi));
     }
-    g
+    real::max(real::max(a, b), real::max(c, d))
 }
 
-// The m-th smallest of the first n of s, if it is above zero and the brackets find it; else 0. Numbers that are equal keep a
-// bracket from having one number only, so it is judged after every 16 halvings.
-pub fn select(s: &[f64; 512], n: usize, m: usize) -> f64
+// x where it is the m-th smallest of the first n of s, else y.
+fn judged(s: &[f64; 512], n: usize, m: usize, x: f64, y: f64) -> f64
     requires { ⌜ n ≤ 512 ⌝ }
-    ensures { λ r. ⌜ (T (lt zero64 r) → T (isKth (now (s .entry)) n m r)) ⌝ }
+    ensures { λ r. ⌜ r ≡ cond (isKth (now (s .entry)) n m x) x y ⌝ }
 {
-    let endless = real::infinity();
-    let first = greatest_below(s, real::min_count(n, 16), endless);
-    let mut lo = 0.0;
-    let mut hi = endless;
+    if is_kth(s, n, m, x) { x } else { y }
+}
+
+// The m-th smallest of the first n of s, each of them judged.
+fn each(s: &[f64; 512], n: usize, m: usize, otherwise: f64) -> f64
+    requires { ⌜ n ≤ 512 ⌝ }
+    ensures { λ r. ⌜ r ≡ kthSmallest (now (s .entry)) n m otherwise ⌝ }
+{
+    let mut v = otherwise;
+    for j in 0..n {
+        v = judged(s, n, m, s[j], v);
+    }
+    v
+}
+
+// The m-th smallest of the first n of s, `otherwise` where they are fewer: found by brackets, which end at about `otherwise` where
+// that is the greatest. Numbers that are equal keep a bracket from having one number only, so it is judged after every 16 cuts.
+// Where the brackets find none (some are infinite or NaN, or many differ by next to nothing), each number is judged.
+pub fn select(s: &[f64; 512], n: usize, m: usize, otherwise: f64) -> f64
+    requires { ⌜ n ≤ 512 ⌝ }
+    ensures { λ r. ⌜ (T (isKth (now (s .entry)) n m r) ⊎ (r ≡ kthSmallest (now (s .entry)) n m otherwise)) ⌝ }
+{
+    if n < m {
+        return otherwise;
+    }
+    let mut b = whole(n, otherwise);
     for t in 0..8u64 {
-        let b = narrow(s, n, m, lo, hi, first);
+        b = narrow(s, n, m, b);
         let v = greatest_below(s, n, b.hi);
         if is_kth(s, n, m, v) {
             return v;
         }
-        lo = b.lo;
-        hi = v;
+        b = ended(b, v, real::from_count(fewer(s, n, v)));
     }
-    0.0
+    if is_kth(s, n, m, otherwise) {
+        return otherwise;
+    }
+    each(s, n, m, otherwise)
 }

@@ -11,6 +11,8 @@ mod single;
 mod stack;
 mod timing;
 mod turns;
+#[cfg(test)]
+mod walks;
 
 use std::process::ExitCode;
 

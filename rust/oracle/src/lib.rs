@@ -264,7 +264,15 @@ macro_rules! side {
             #[allow(dead_code, missing_docs, unused_imports, clippy::all)]
             mod gwr {
                 include!(concat!(env!("OUT_DIR"), $file));
+
+                /// 000's `local_bandwidth_distance` of place i, among these alone.
+                pub fn bandwidth_of(places: &[(f64, f64)], i: usize, k: usize) -> f64 {
+                    let k = ResolvedBandwidth::AdaptiveKnn(k);
+                    local_bandwidth_distance(&pairwise_distances(places), k, i, places.len())
+                }
             }
+
+            pub use gwr::bandwidth_of;
 
             /// Runs 000 on a job of right byte lengths and known numbers; it is handed what an unsearched count becomes.
             pub fn fit(job: &Job) -> Fitted {
@@ -344,6 +352,11 @@ macro_rules! side {
             pub fn weight(_: u64, _: f64, _: f64) -> f64 {
                 panic!("{MISSING}")
             }
+
+            /// Without 000 there is nothing to run.
+            pub fn bandwidth_of(_: &[(f64, f64)], _: usize, _: usize) -> f64 {
+                panic!("{MISSING}")
+            }
         }
     };
 }
@@ -358,6 +371,30 @@ side!(
     platform,
     "/platform.rs"
 );
+
+/// The bandwidth at a place for k neighbours among the first pantries handed over, by the words of 01 and 02's wish 5 alone: the k-th
+/// smallest distance to those that are not its own, the last one if k is larger; if that is zero, or there is none, the greatest of
+/// them and EPS.
+pub fn bandwidth_among(
+    pantries: &[(f64, f64)],
+    place: (f64, f64),
+    own: Option<usize>,
+    k: usize,
+) -> f64 {
+    let mut distances = Vec::new();
+    for (j, pantry) in pantries.iter().enumerate() {
+        if own != Some(j) {
+            let (dx, dy) = (place.0 - pantry.0, place.1 - pantry.1);
+            distances.push((dx * dx + dy * dy).sqrt());
+        }
+    }
+    distances.sort_by(f64::total_cmp);
+    let kth = distances.get(k - 1).or(distances.last()).copied();
+    match kth {
+        Some(d) if d > 0.0 => d,
+        _ => distances.last().copied().unwrap_or(0.0).max(f64::EPSILON),
+    }
+}
 
 /// What the weight call must answer to numbers of these bits, with `room` bytes lent: the refusal's number and the bytes after.
 pub fn expected_weight(kernel: u64, d: u64, b: u64, room: usize) -> (u32, Vec<u8>) {

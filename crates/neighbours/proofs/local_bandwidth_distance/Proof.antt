@@ -1,11 +1,8 @@
 -- `neighbours::local_bandwidth_distance` meets its contract: by the bandwidth's kind.
 use borrow.Author.Needs.{needs}
-use Rattle.neighbours.proofs.Bandwidths.{some-asked, few-asked, by-count, by-distance}
+use Rattle.neighbours.proofs.Bandwidths.{by-count, by-distance}
 use Rattle.neighbours.proofs.local_bandwidth_distance.Statement.{statement}
 use Rattle.neighbours.proofs.local_bandwidth_distance.Tie as tie
-
-nearest-from-requires : tie.Need-nearest-from-requires
-nearest-from-requires c κs = search (needs, some-asked, few-asked)
 
 returns : tie.Need-returns
 returns c = search (needs, by-distance)
@@ -26,6 +23,6 @@ local-bandwidth-distance-spec =
     (λ c. search needs)
     (λ c. search needs)
     (λ c. search needs)
-    nearest-from-requires
+    (λ c κs. search needs)
     returns
     returns-2)

@@ -1,11 +1,14 @@
--- `neighbours::nearest_from` meets its contract: the root of the sum that was selected, or the walk.
+-- `neighbours::nearest_from` meets its contract: a walk over all pantries, and what it gives.
 use borrow.Author.Needs.{needs}
-use Rattle.neighbours.proofs.Selects.{root-found}
+use Rattle.neighbours.proofs.Walks.{held-within, walked}
 use Rattle.neighbours.proofs.nearest_from.Statement.{statement}
 use Rattle.neighbours.proofs.nearest_from.Tie as tie
 
+found-by-requires : tie.Need-found-by-requires
+found-by-requires c κs = search (needs, held-within)
+
 returns : tie.Need-returns
-returns c = search (needs, root-found)
+returns c = search (needs, walked)
 
 pub nearest-from-spec : {M : Type 1} → statement M
 nearest-from-spec =
@@ -13,6 +16,5 @@ nearest-from-spec =
     (tie.spec
     (λ c κs. search needs)
     (λ c κs. search needs)
-    returns
-    (λ c κs. search needs)
-    (λ c. search needs))
+    found-by-requires
+    returns)

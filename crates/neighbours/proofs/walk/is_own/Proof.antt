@@ -1,6 +1,6 @@
 -- `neighbours::walk::is_own` meets its contract: by whether there is an own pantry.
 use borrow.Author.Needs.{needs}
-use Rattle.neighbours.proofs.Owns.{own-at, own-nobody}
+use Rattle.neighbours.proofs.Walks.{own-at, own-nobody}
 use Rattle.neighbours.proofs.walk.is_own.Statement.{statement}
 use Rattle.neighbours.proofs.walk.is_own.Tie as tie
 

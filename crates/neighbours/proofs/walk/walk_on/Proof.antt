@@ -1,16 +1,16 @@
 -- `neighbours::walk::walk_on` meets its contract: the loop's state is the walk up to j.
 use Prim.Native.Nat.{_-_}
 use borrow.Author.Needs.{needs}
-use Rattle.neighbours.specs.Walk.{distanceFrom, walkIn}
+use Rattle.neighbours.specs.Walk.{squaresFrom}
 use Rattle.neighbours.proofs.Walks.{Walking, setting-out, going-on, arrived}
 use Rattle.neighbours.proofs.walk.walk_on.Statement.{statement}
 use Rattle.neighbours.proofs.walk.walk_on.Tie as tie
 
 abbrev Inv-loop : tie.InvT-loop
-Inv-loop coords from to east north own k kept₀ w₀ j₀ kept w j = Walking own (distanceFrom coords east north) k from to (walkIn kept₀ (w₀ .held) (w₀ .greatest)) kept₀ kept (w .held) (w .greatest) j
+Inv-loop coords from to east north own sums₀ w₀ j₀ sums w j = Walking own (squaresFrom coords east north) from to sums₀ (w₀ .met) (w₀ .greatest) sums (w .met) (w .greatest) j
 
 abbrev μ-loop : tie.MeasureT-loop
-μ-loop coords from to east north own k kept₀ w₀ j₀ kept w j = to - j
+μ-loop coords from to east north own sums₀ w₀ j₀ sums w j = to - j
 
 loop-holds : tie.Need-loop-holds Inv-loop μ-loop
 loop-holds c = search (needs, setting-out)
@@ -30,5 +30,4 @@ walk-on-spec =
     (λ c. search needs)
     (λ c. search needs)
     loop-again
-    (λ c. search needs)
     returns)
