@@ -2,7 +2,7 @@
 use mathlib.Core.Path.{_≡_, refl, sym, ap, _∙_, subst}
 use mathlib.Core.Bool.{Bool, true, false, not, cond, _&&_}
 use mathlib.Core.List.{List, [], _∷_, _++_}
-use Prim.Native.Nat.{ℕ, zero, suc, _+_, _-_, _≤_, _<_}
+use Prim.Native.Nat.{ℕ, zero, suc, _+_, _≤_, _<_}
 use native.Mathlib.Nat.{not-suc-le-zero}
 use native.Mathlib.Numerals.{add-one}
 use native.Mathlib.Omega.{arith}
@@ -11,7 +11,8 @@ use lib.ListN.{length, take, drop, getD, take-append-drop}
 use lib.Seq.{take-suc, take-length}
 use lib.Ieee.{Float, nan, le, lt, isNan}
 use lib.Ieee.Bits.{is-true}
-use Rattle.real.specs.Fold.{turns, range}
+use Rattle.real.specs.Fold.{turns}
+use Rattle.real.proofs.Fold.{related}
 use Rattle.real.proofs.Cases.{by-truth}
 use Rattle.real.proofs.Values.{untrue}
 use Rattle.real.proofs.SignedOrder.{le-tr, apart, nlt→le, number-left}
@@ -37,9 +38,13 @@ module _ (p : Float → Bool) where
       go true e = omega arith
       go false e = e
 
-  pub amount-cons : (x : Float) (l : List Float) → amount p (x ∷ l) ≡ cond (p x) (suc (amount p l)) (amount p l)
+  amount-cons : (x : Float) (l : List Float) → amount p (x ∷ l) ≡ cond (p x) (suc (amount p l)) (amount p l)
   unfolding amount
   amount-cons x l = refl
+
+  pub amount-snoc : (l : List Float) (x : Float) → amount p (l ++ x ∷ []) ≡ amount p l + cond (p x) 1 0
+  unfolding amount
+  amount-snoc l x = amount-append l (x ∷ [])
 
   amount-inserted : (x : Float) (l : List Float) → amount p (insert x l) ≡ cond (p x) (suc (amount p l)) (amount p l)
   amount-inserted x l =
@@ -65,18 +70,13 @@ module _ (p : Float → Bool) where
         go true = e
         go false = amount-inserted (d j) l ∙ inner (p (d j))
 
-    amount-walked : (n : ℕ) → amount p (turns (insertStep own d) 0 n []) ≡ turns (tallyStep (λ q. not (isOwn own q) && p (d q))) 0 n 0
-    unfolding turns amount
-    amount-walked zero = refl
-    amount-walked (suc n) = amount-joined (0 + n) (turns (insertStep own d) 0 n []) _ (amount-walked n)
-
     pub amount-all : (m : ℕ) → amount p (allDistances own d m) ≡ tally (λ q. not (isOwn own q) && p (d q)) m
-    unfolding allDistances tally range
-    amount-all m = amount-walked (m - 0)
+    unfolding allDistances tally amount
+    amount-all m = related (insertStep own d) (tallyStep (λ q. not (isOwn own q) && p (d q))) 0 m (λ l c. amount p l ≡ c) (λ j l c h e. amount-joined j l c e) [] 0 (omega arith) refl
 
     -- and those that a walk met
     amount-passed : (j : ℕ) (w : Walk) (c : ℕ) → amount p (w .sums) ≡ c → amount p (pass own d j w .sums) ≡ tallyStep (λ q. not (isOwn own q) && p (d q)) j c
-    unfolding pass meet tallyStep amount
+    unfolding pass meet tallyStep
     amount-passed j w c e = go (isOwn own j)
       where
         inner : (b : Bool) → amount p (w .sums) + cond b 1 0 ≡ cond b (c + 1) c
@@ -85,16 +85,11 @@ module _ (p : Float → Bool) where
 
         go : (b : Bool) → amount p (cond b w (meet (d j) w) .sums) ≡ cond (not b && p (d j)) (c + 1) c
         go true = e
-        go false = amount-append (w .sums) (d j ∷ []) ∙ inner (p (d j))
-
-    amount-gathered : (n : ℕ) → amount p (turns (pass own d) 0 n unmet .sums) ≡ turns (tallyStep (λ q. not (isOwn own q) && p (d q))) 0 n 0
-    unfolding turns amount
-    amount-gathered zero = refl
-    amount-gathered (suc n) = amount-passed (0 + n) (turns (pass own d) 0 n unmet) _ (amount-gathered n)
+        go false = amount-snoc (w .sums) (d j) ∙ inner (p (d j))
 
     pub amount-met : (m : ℕ) → amount p (walkOn own d 0 m unmet .sums) ≡ tally (λ q. not (isOwn own q) && p (d q)) m
-    unfolding walkOn tally range
-    amount-met m = amount-gathered (m - 0)
+    unfolding walkOn tally amount
+    amount-met m = related (pass own d) (tallyStep (λ q. not (isOwn own q) && p (d q))) 0 m (λ w c. amount p (w .sums) ≡ c) (λ j w c h e. amount-passed j w c e) unmet 0 (omega arith) refl
 
   -- by its places
   amount-taken : (l : List Float) (n : ℕ) → n ≤ length l → amount p (take n l) ≡ turns (tallyStep (λ j. p (getD l j nan))) 0 n 0
@@ -102,7 +97,7 @@ module _ (p : Float → Bool) where
   amount-taken l zero h = refl
   amount-taken l (suc n) h =
       let z : 0 + n ≡ n = omega arith in
-      ap (amount p) (take-suc l n nan h) ∙ amount-append (take n l) (getD l n nan ∷ []) ∙ rw z (go (p (getD l n nan)) (amount-taken l n (omega arith)))
+      ap (amount p) (take-suc l n nan h) ∙ amount-snoc (take n l) (getD l n nan) ∙ rw z (go (p (getD l n nan)) (amount-taken l n (omega arith)))
     where
       go : (b : Bool) → amount p (take n l) ≡ turns (tallyStep (λ j. p (getD l j nan))) 0 n 0
           → amount p (take n l) + cond b 1 0 ≡ cond b (turns (tallyStep (λ j. p (getD l j nan))) 0 n 0 + 1) (turns (tallyStep (λ j. p (getD l j nan))) 0 n 0)

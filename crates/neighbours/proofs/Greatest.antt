@@ -21,7 +21,7 @@ use Rattle.neighbours.specs.declared.Own.{Own}
 use Rattle.neighbours.specs.Walk.{Walk, unmet, meet, isOwn, pass, walkOn}
 use Rattle.neighbours.specs.Smallest.{greatStep, greatestMet}
 use Rattle.neighbours.proofs.Inserts.{le-itself}
-use Rattle.neighbours.proofs.Amounts.{amount, amount-append, amount-most, amount-mono}
+use Rattle.neighbours.proofs.Amounts.{amount, amount-snoc, amount-most, amount-mono}
 
 -- a binary64 from 0 up
 abbrev pub fromZero : Float → Bool
@@ -40,10 +40,6 @@ module _ (x : Float) (t : T (fromZero x)) where
   not-below-zero : lt x zero64 ≡ false
   unfolding ofBits
   not-below-zero = untrue (lt x zero64) (λ h. apart x zero64 h (nonneg-above x above))
-
-amount-snoc : (p : Float → Bool) (l : List Float) (x : Float) → amount p (l ++ x ∷ []) ≡ amount p l + cond (p x) 1 0
-unfolding amount
-amount-snoc p l x = amount-append p l (x ∷ [])
 
 -- ---- the greatest of the sums met
 pub record Topped (w : Walk) : Type 0 where

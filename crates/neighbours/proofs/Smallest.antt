@@ -13,9 +13,8 @@ use lib.Ieee.{Float, nan, binary64, le, lt, fits}
 use lib.Ieee.Bits.{is-true}
 use lib.Ieee.Fits.{and-i}
 use lib.Ieee.Scale.{finite}
-use Rattle.real.specs.Fold.{turns, range}
 use Rattle.real.specs.Reals.{zero64, greater, eps64}
-use Rattle.real.proofs.Fold.{kept}
+use Rattle.real.proofs.Fold.{kept, related}
 use Rattle.real.proofs.Cases.{by-truth}
 use Rattle.real.proofs.Values.{untrue}
 use Rattle.real.proofs.SignedOrder.{nonneg, apart, nlt→le, here-or-on}
@@ -44,14 +43,9 @@ module _ (own : Own) (d : ℕ → Float) where
       go true = r
       go false = List·Permᴰ·trans (inserted-perm (d j) l) (List·Permᴰ·cons refl r)
 
-  met-walked : (n : ℕ) → List·Permᴰ (turns (insertStep own d) 0 n []) (turns (frontStep own d) 0 n [])
-  unfolding turns
-  met-walked zero = List·Permᴰ·nil
-  met-walked (suc n) = one-met (0 + n) _ _ (met-walked n)
-
   pub all-met : (m : ℕ) → List·Permᴰ (allDistances own d m) (metDistances own d m)
-  unfolding allDistances metDistances range
-  all-met m = met-walked (m - 0)
+  unfolding allDistances metDistances
+  all-met m = related (insertStep own d) (frontStep own d) 0 m (λ l s. List·Permᴰ l s) (λ j l s h r. one-met j l s r) [] [] (omega arith) List·Permᴰ·nil
 
 -- ---- and where they are numbers, they are in ascending order
 module _ (own : Own) (d : ℕ → Float) (m : ℕ) (numbers : (j : ℕ) → j < m → Number (d j)) where

@@ -179,7 +179,7 @@ fn every_split_point_of_forty_pantries() {
 #[test]
 fn every_split_point_of_other_forties() {
     let mut g = Rng::new(0x3A1C);
-    for style in 0..6 {
+    for style in 0..7 {
         let pantries: Vec<Place> = (0..40)
             .map(|j: usize| match style {
                 0 => (g.unit() * 1000.0, g.unit() * 1000.0),
@@ -192,7 +192,16 @@ fn every_split_point_of_other_forties() {
                 // differences that overflow
                 4 => ([-1.5e308, 1.5e308, 7.0][j % 3], g.unit()),
                 // on a line, farther and farther
-                _ => (2f64.powi(j as i32), 0.0),
+                5 => (2f64.powi(j as i32), 0.0),
+                // each so much nearer than the one before that, from the first, no bracket finds one and each is judged
+                _ => (
+                    if j == 0 {
+                        0.0
+                    } else {
+                        2f64.powi(-6 * j as i32)
+                    },
+                    0.0,
+                ),
             })
             .collect();
         for start in starts(&pantries) {
