@@ -9,10 +9,10 @@ use lib.IntN.{pos}
 use lib.Dec.{T, leb, leb→le}
 use lib.Ieee.{Float, binary64, add, mul, div, neg, ofInt, le, round}
 use lib.Ieee.Exact.{HasValue}
-use lib.Ieee.Back.{round-whole}
 use lib.Ieee.Fits.{and-l, and-r}
 use lib.Ieee.Scale.{finite}
 use Rattle.real.proofs.SignedOrder.{P, N, natural, nat-sgn, le-tr}
+use Rattle.real.proofs.Counts.{count-value}
 use Rattle.real.specs.Reals.{magnitude}
 use Rattle.real.proofs.Closed.{one}
 use Rattle.elementary.specs.Exp.{expStep, expSteps}
@@ -77,10 +77,6 @@ next U E c d j S S' Rp Rn p q a b u jj f n r s t =
     (omega (arith, mul-le-mul-right (E * c * d) s)) (omega (arith, mul-le-mul-right (U * E * d) t)) (omega (arith, mul-le-mul-right (U * E * d * c) jj)))
 
 -- ---- one step in floats
-whole : (j : ℕ) → j ≤ 2 ^ 53 → HasValue (ofInt binary64 (pos j)) false j 1
-unfolding ofInt
-whole j h = round-whole binary64 false j h
-
 -- a sum that is known not to be negative
 upright : (w : Float) (p n : ℕ) → T (natural w) → Sum w p n → (z : ℕ) × HasValue w false z U × Within E (z + n) (0 + p)
 upright w p n t s = let e : s .0 ≡ false = sym (cross w (s .0) (s .1) U (s .2) .1) ∙ nat-sgn w t in (s .1, rw e at (s .2), rw e at (s .3))
@@ -91,7 +87,7 @@ step-near r s σ R S j vr vs hR hS jj j53 t =
     let a = product-small U R S u-pos hR hS in
     let m = mul-near r s σ R S vr vs (a .1) in
     let b = rounded-small U E j (m .0) (R * S) u-pos jj e-small (a .0) (m .2) in
-    let q = div-near (mul binary64 r s) (ofInt binary64 (pos j)) σ (m .0) j (m .1) (whole j j53) jj (b .1) in
+    let q = div-near (mul binary64 r s) (ofInt binary64 (pos j)) σ (m .0) j (m .1) (count-value j j53) jj (b .1) in
     let c = sum-small σ U (q .0) (quotient-small U E j (q .0) (m .0) u-pos jj e-small (b .0) (q .2)) in
     let x = div binary64 (mul binary64 r s) (ofInt binary64 (pos j)) in
     let w = upright (add binary64 one x) (U + P σ (q .0)) (0 + N σ (q .0)) (rw (step-is r s j) at t) (add-near one x false σ U (q .0) (U + q .0) (refl, refl) (q .1) (c .0) (c .1)) in

@@ -10,9 +10,9 @@ use lib.Dec.{lit<}
 use lib.IntN.{pos}
 use lib.Ieee.{Float, nan, inf, fin, binary64, up, down, minus, sum, add, sub, neg, ofInt}
 use lib.Ieee.Exact.{HasValue}
-use lib.Ieee.Back.{round-whole}
 use lib.Ieee.Fits.{down-pos}
 use lib.Ieee.Scale.{round-same}
+use Rattle.real.proofs.Counts.{count-value}
 use Rattle.real.proofs.SignedOrder.{here-or-on}
 
 -- a·C/C - b·C/C
@@ -48,9 +48,5 @@ difference (fin false m e) (fin false n d) a b h k =
     ∙ ap (λ (z : ℕ). sum binary64 false (a * C) true z C) r
     ∙ sum-whole a b C (mul-pos (down-pos e) (down-pos d))
 
-of-whole : (n : ℕ) → n ≤ 2 ^ 53 → HasValue (ofInt binary64 (pos n)) false n 1
-unfolding ofInt
-of-whole n h = round-whole binary64 false n h
-
 pub whole-difference : (a b : ℕ) → a ≤ 2 ^ 53 → b ≤ 2 ^ 53 → sub binary64 (ofInt binary64 (pos a)) (ofInt binary64 (pos b)) ≡ ofInt binary64 (minus a b)
-whole-difference a b h k = difference (ofInt binary64 (pos a)) (ofInt binary64 (pos b)) a b (of-whole a h) (of-whole b k)
+whole-difference a b h k = difference (ofInt binary64 (pos a)) (ofInt binary64 (pos b)) a b (count-value a h) (count-value b k)

@@ -1,5 +1,5 @@
 -- The search of an accepted job is `golden_section_min` as 000 has it, and so is its fit.
-use mathlib.Core.Path.{_≡_, refl, ap, subst, subst⁻¹, _∙_}
+use mathlib.Core.Path.{_≡_, refl, ap, subst⁻¹, _∙_}
 use mathlib.Core.List.{List}
 use mathlib.Core.Bool.{Bool, true, false, not}
 use Prim.Native.Nat.{ℕ, _^_, _≤_, _<_}
@@ -7,11 +7,11 @@ use native.Mathlib.Omega.{arith}
 use lib.Dec.{T, leb, le→leb, nleb→lt}
 use lib.ListN.{length}
 use lib.IntN.{pos}
-use lib.Ieee.{Float, binary64, le, round, ofInt, toUnsigned, inFloat}
-use lib.Ieee.Order.{round-mono}
+use lib.Ieee.{Float, binary64, le, ofInt, toUnsigned, inFloat}
 use lib.Ieee.Back.{unsigned-back}
 use Rattle.real.proofs.Cases.{by-test}
-use Rattle.real.proofs.SignedOrder.{natural, sgn-natural, in-fin, round-sgn, toUnsigned-mono}
+use Rattle.real.proofs.Counts.{count-natural}
+use Rattle.real.proofs.SignedOrder.{toUnsigned-mono}
 use Rattle.setup.specs.declared.GwrBandwidth.{GwrBandwidth}
 use Rattle.setup.specs.declared.GwrBandwidth.the-variants.{Fixed, AdaptiveKnn}
 use Rattle.setup.specs.declared.GwrOptions.{GwrOptions}
@@ -33,13 +33,6 @@ use Rattle.gwr.specs.Fit.{finalOf, soughtOf, answered, gwrFit}
 
 -- A search that is accepted has lo below hi, so that 000's `if a >= b` does not hold
 
-whole-natural : (n : ℕ) → n ≤ 1024 → T (natural (ofInt binary64 (pos n)))
-unfolding ofInt
-whole-natural n h =
-    let z : T (le (round binary64 false 0 1) (round binary64 false n 1)) = round-mono binary64 0 1 n 1 (omega arith) (omega arith) (omega arith) in
-    let k : T (le (round binary64 false n 1) (round binary64 false 1024 1)) = round-mono binary64 n 1 1024 1 (omega arith) (omega arith) (omega arith) in
-    sgn-natural (round binary64 false n 1) (in-fin (round binary64 false 0 1) (round binary64 false n 1) (round binary64 false 1024 1) (unfold round in tt) (unfold round in tt) z k) (round-sgn binary64 false n 1)
-
 whole-back : (n : ℕ) → n ≤ 1024 → toUnsigned 64 (ofInt binary64 (pos n)) ≡ n
 whole-back n h = unsigned-back binary64 64 n (unfold inFloat in le→leb n (2 ^ 53) (omega arith)) (omega arith) .1
 
@@ -49,7 +42,7 @@ whole-apart m n l h = go (le (ofInt binary64 (pos n)) (ofInt binary64 (pos m))) 
     go : (b : Bool) → le (ofInt binary64 (pos n)) (ofInt binary64 (pos m)) ≡ b → b ≡ false
     go false e = refl
     go true e =
-        let k = toUnsigned-mono 64 (ofInt binary64 (pos n)) (ofInt binary64 (pos m)) (whole-natural n h) (whole-natural m (omega arith)) (subst⁻¹ T e tt) in
+        let k = toUnsigned-mono 64 (ofInt binary64 (pos n)) (ofInt binary64 (pos m)) (count-natural n (omega arith) .0) (count-natural m (omega arith) .0) (subst⁻¹ T e tt) in
         absurd (omega (arith, k, whole-back n h, whole-back m (omega arith)))
 
 abbrev Apart : Plan → Type 0

@@ -1,21 +1,18 @@
 -- What a search is given: lo and hi are finite numbers of binary64, 0 ≤ lo ≤ hi.
-use mathlib.Core.Path.{_≡_, refl, sym, subst, subst⁻¹, _∙_}
-use mathlib.Core.Bool.{Bool, true, false, cond, not, true≢false}
+use mathlib.Core.Path.{_≡_, refl, subst, subst⁻¹}
+use mathlib.Core.Bool.{Bool, true, false, cond, not}
 use mathlib.Core.Logic.{_⊎_, inl, inr}
-use Prim.Native.Nat.{ℕ, _*_, _^_, _≤_, _<_}
-use native.Mathlib.Nat.{le-trans, mul-one, mul-pos}
+use Prim.Native.Nat.{ℕ, _≤_}
 use native.Mathlib.Omega.{arith}
 use borrow.Author.Tests.{not-false}
-use lib.Dec.{T, lit<, lit≤, leb}
+use lib.Dec.{T, leb}
 use lib.IntN.{pos}
-use lib.Ieee.{Float, nan, inf, fin, binary64, up, mul, div, lt, le, fits, isNan, ofBits, ofInt}
-use lib.Ieee.Back.{round-whole}
-use lib.Ieee.Exact.{HasValue}
-use lib.Ieee.Fits.{cond-fits, div-fits, mul-fits, ofInt-fits, down-pos, and-l, and-r}
+use lib.Ieee.{Float, nan, inf, fin, binary64, mul, div, lt, le, fits, isNan, ofBits}
+use lib.Ieee.Fits.{cond-fits, div-fits, mul-fits, ofInt-fits, and-l, and-r}
 use lib.Ieee.Scale.{finite}
-use lib.Ieee.Positive.{num}
 use Rattle.real.specs.Reals.{greater, lesser, zero64, fromCount}
-use Rattle.real.proofs.SignedOrder.{natural, nat-fin, nat-above, in-fin, le-total, lt→le, round-smono, div-smono, zero-over}
+use Rattle.real.proofs.Counts.{count-natural, count-order}
+use Rattle.real.proofs.SignedOrder.{nat-fin, nat-above, in-fin, le-total, lt→le, div-smono, zero-over}
 use Rattle.refusal.specs.declared.Refusal.the-variants.{NoDistanceRange}
 use Rattle.setup.specs.declared.GwrBandwidth.{GwrBandwidth}
 use Rattle.setup.specs.declared.GwrBandwidth.the-variants.{Fixed, AdaptiveKnn}
@@ -38,21 +35,6 @@ unfolding le isNan ofBits
 above-number nan h = h
 above-number (inf s) h = tt
 above-number (fin s m e) h = tt
-
--- a count as a real: finite, from 0 up, above 0 where the count is
-whole-natural : (x : Float) (n : ℕ) → HasValue x false n 1 → T (natural x) × (0 < n → 0 < num x)
-whole-natural nan n h = absurd h
-whole-natural (inf s) n h = absurd h
-whole-natural (fin true m e) n h = absurd (true≢false (h .0))
-whole-natural (fin false m e) n h = (tt, λ k. subst (λ (z : ℕ). 0 < z) (sym (sym (mul-one (m * up e)) ∙ h .1)) (mul-pos k (down-pos e)))
-
-count-natural : (n : ℕ) → n ≤ 512 → T (natural (fromCount n)) × (0 < n → 0 < num (fromCount n))
-unfolding ofInt
-count-natural n h = whole-natural (fromCount n) n (round-whole binary64 false n (le-trans h (lit≤ {m = 512} {n = 2 ^ 53} tt)))
-
-count-order : (m n : ℕ) → m ≤ n → T (le (fromCount m) (fromCount n))
-unfolding ofInt
-count-order m n h = round-smono binary64 false false m 1 n 1 (lit< tt) (lit< tt) (omega arith)
 
 -- ---- the range of a search
 pub record Ranged (lo hi : Float) : Type 0 where
@@ -82,7 +64,7 @@ module _ (hi : Float) (n : ℕ) (held : T (fits binary64 hi)) (some : 1 ≤ n) (
     where
       part-above : Above part
       part-above =
-          let r = count-natural n few in
+          let r = count-natural n (omega arith) in
           subst (λ (z : Float). T (le z part)) (zero-over binary64 (fromCount n) (r .0) (r .1 some)) (div-smono binary64 (fin false 0 (pos 0)) hi (fromCount n) tt f (r .0) (r .1 some) h)
 
       go : (t : Bool) → Above (cond t hi (greater part share))
@@ -111,7 +93,7 @@ count-ranged m n h few =
       low-held = ofInt-fits binary64 (pos m);
       high-held = ofInt-fits binary64 (pos n);
       low-finite = nat-fin (fromCount m) r;
-      high-finite = nat-fin (fromCount n) (count-natural n few .0);
+      high-finite = nat-fin (fromCount n) (count-natural n (omega arith) .0);
       from-zero = nat-above (fromCount m) r;
       order = count-order m n h;
     }

@@ -1,5 +1,6 @@
 pub mod Fold
 pub mod SignedOrder
+pub mod Counts
 pub mod Values
 pub mod Rounding
 pub mod Toward
