@@ -24,9 +24,9 @@ use Rattle.elementary.specs.LnSteps.{LnFinite}
 use Rattle.elementary.proofs.LnRange.{ln-finite}
 use Rattle.setup.specs.declared.GwrCriterion.{GwrCriterion}
 use Rattle.setup.specs.declared.GwrCriterion.the-variants.{Unguarded, Guarded}
-use Rattle.setup.specs.declared.GwrOptions.{GwrOptions}
 use Rattle.setup.specs.declared.Setup.{Setup}
-use Rattle.setup.specs.Options.{judgedBy}
+use Rattle.setup.specs.Options.{under}
+use Rattle.setup.specs.Shape.{Sized}
 use Rattle.refusal.specs.declared.Refusal.the-variants.{DeviationNotFinite}
 use Rattle.criterion.specs.declared.Criterion.{Criterion}
 use Rattle.criterion.specs.declared.Criterion.the-variants.{Value, Refused}
@@ -271,9 +271,9 @@ least-normal : LnFinite leastNormal
 unfolding ofBits
 least-normal = ln-finite leastNormal (unfold fits in tt) (unfold le in tt) (unfold lt in tt)
 
-module _ (o : GwrOptions) (n p : ℕ) (rss trace : Float) where
-  abbrev under : GwrCriterion → Setup
-  under c = record { options = judgedBy c o; n = n; p = p }
+module _ (u : Setup) (rss trace : Float) where
+  abbrev n : ℕ
+  n = u .n
 
   abbrev sigma : Float
   sigma = deviation rounded root (fromCount n) rss
@@ -282,31 +282,30 @@ module _ (o : GwrOptions) (n p : ℕ) (rss trace : Float) where
   d = freedom rounded (fromCount n) trace
 
   -- D not below -EPS, a NaN among them: no difference
-  pub guard-same : T (not (lt d (neg eps64))) → correctedAic (under Guarded) rss trace ≡ correctedAic (under Unguarded) rss trace
+  pub guard-same : T (not (lt d (neg eps64))) → correctedAic (under Guarded u) rss trace ≡ correctedAic (under Unguarded u) rss trace
   unfolding correctedAic criterionOf
   guard-same h = ap (λ (b : Bool). cond (finite sigma) (Value (cond b inf64 (aiccFormula rounded pi64 lnv (fromCount n) (floored sigma) trace))) (Refused DeviationNotFinite)) (same-test d h)
 
   floored-ln : T (finite sigma) → LnFinite (floored sigma)
   unfolding floored
-  floored-ln f = by-test LnFinite (le sigma zero64) leastNormal sigma (λ _. least-normal) (λ e. sigma-normal (under Guarded) rss trace f (subst (λ (b : Bool). T (not b)) (sym e) tt) .1)
+  floored-ln f = by-test LnFinite (le sigma zero64) leastNormal sigma (λ _. least-normal) (λ e. sigma-normal (under Guarded u) rss trace f (subst (λ (b : Bool). T (not b)) (sym e) tt) .1)
 
-  unguarded-value : T (finite sigma) → T (lt d (neg eps64)) → correctedAic (under Unguarded) rss trace ≡ Value (aiccFormula rounded pi64 lnv (fromCount n) (floored sigma) trace)
+  unguarded-value : T (finite sigma) → T (lt d (neg eps64)) → correctedAic (under Unguarded u) rss trace ≡ Value (aiccFormula rounded pi64 lnv (fromCount n) (floored sigma) trace)
   unfolding correctedAic criterionOf
   unguarded-value f h = rw (is-true (finite sigma) f, is-false (exhausted Unguarded d) (below-unguarded d h))
 
-  -- D below -EPS, and 17 not met: guarded is plus infinity
-  pub guard-infinite : T (finite sigma) → T (lt d (neg eps64)) → correctedAic (under Guarded) rss trace ≡ Value inf64
-  guard-infinite f h = aicc-exhausted (under Guarded) rss trace f (below-guarded d h)
-
-  -- and unguarded never
-  pub unguarded-falls : 1 ≤ n → n ≤ 512 → T (finite sigma) → T (lt d (neg eps64)) → correctedAic (under Unguarded) rss trace ≡ Value inf64 → ⊥
-  unguarded-falls some few f h e = never-infinite n (floored sigma) trace some few (floored-ln f) h (ap valueOf (sym (unguarded-value f h) ∙ e))
+  -- D below -EPS, and 17 not met: guarded is plus infinity, and unguarded never
+  pub guard-differs : Sized u → T (finite sigma) → T (lt d (neg eps64))
+      → (correctedAic (under Guarded u) rss trace ≡ Value inf64) × (correctedAic (under Unguarded u) rss trace ≡ Value inf64 → ⊥)
+  guard-differs s f h =
+      (aicc-exhausted (under Guarded u) rss trace f (below-guarded d h),
+      λ e. never-infinite n (floored sigma) trace (omega (arith, s .enough)) (s .few) (floored-ln f) h (ap valueOf (sym (unguarded-value f h) ∙ e)))
     where
       valueOf : Criterion → Float
       valueOf (Value v) = v
       valueOf (Refused r) = nan
 
   -- D a NaN, and 17 not met: worked as it falls, to NaN, by either
-  pub guard-nan : (c : GwrCriterion) → T (finite sigma) → d ≡ nan → correctedAic (under c) rss trace ≡ Value nan
+  pub guard-nan : T (finite sigma) → d ≡ nan → correctedAic u rss trace ≡ Value nan
   unfolding correctedAic criterionOf aiccFormula
-  guard-nan c f e = rw (is-true (finite sigma) f, e, no-number c, over-nan (mul binary64 (fromCount n) (add binary64 (fromCount n) trace)), plus-nan (add binary64 (mul binary64 (mul binary64 two64 (fromCount n)) (lnv (floored sigma))) (mul binary64 (fromCount n) (lnv (mul binary64 two64 pi64)))))
+  guard-nan f e = rw (is-true (finite sigma) f, e, no-number (u .options .criterion), over-nan (mul binary64 (fromCount n) (add binary64 (fromCount n) trace)), plus-nan (add binary64 (mul binary64 (mul binary64 two64 (fromCount n)) (lnv (floored sigma))) (mul binary64 (fromCount n) (lnv (mul binary64 two64 pi64)))))

@@ -9,6 +9,7 @@ use Rattle.kernel.specs.declared.GwrKernel.{GwrKernel}
 use Rattle.setup.specs.declared.GwrBandwidth.the-variants.{Fixed}
 use Rattle.setup.specs.declared.GwrOptions.{GwrOptions}
 use Rattle.setup.specs.Data.{Data}
+use Rattle.setup.specs.Options.{unguarded}
 use Rattle.stepping.specs.declared.Job.{Job}
 use Rattle.starting.specs.declared.Begun.{Begun}
 use Rattle.starting.specs.Begin.{beginOf}
@@ -16,7 +17,7 @@ use Rattle.measured.specs.Turns.{kernelBy, playOf, turnsOf}
 
 module _ (d : Data) (p number a turns : ℕ) (out : List Float) where
   abbrev options : GwrKernel → GwrOptions
-  options k = record { kernel = k; bandwidth = Fixed (ofBits binary64 0x4079_0000_0000_0000); «optimize_bandwidth» = false }
+  options k = unguarded k (Fixed (ofBits binary64 0x4079_0000_0000_0000)) false
 
   abbrev given : Job × List Float → ℕ × List Float
   given s = (s .0 .solves, s .1)
