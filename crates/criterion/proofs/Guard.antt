@@ -1,8 +1,8 @@
 -- Where the two criteria differ: exactly where D < -EPS and 17 is not met. There guarded gives plus infinity, and unguarded, worked as it falls, never does. A D that is NaN is worked as it falls by both. Assumes nothing.
 use mathlib.Core.Path.{_≡_, refl, ap, sym, subst, _∙_}
-use mathlib.Core.Logic.{_⊎_, inl, inr}
+use mathlib.Core.Logic.{inl, inr}
 use mathlib.Core.Bool.{Bool, true, false, not, cond, true≢false}
-use Prim.Native.Nat.{ℕ, _+_, _*_, _≤_, _<_}
+use Prim.Native.Nat.{ℕ, _*_, _≤_, _<_}
 use native.Mathlib.Nat.{zero-mul, mul-pos}
 use native.Mathlib.Omega.{arith}
 use lib.Dec.{T, eqb}
@@ -10,14 +10,13 @@ use lib.IntN.{pos}
 use lib.Ieee.{Float, nan, inf, fin, binary64, up, down, add, sub, mul, div, neg, lt, le, fits, isNan, round, ofBits, ofInt}
 use lib.Ieee.Bits.{is-true, is-false}
 use lib.Ieee.Fits.{down-pos}
-use lib.Ieee.Positive.{num, den, den-pos}
 use lib.Ieee.Scale.{finite}
 use Rattle.real.specs.Reals.{zero64, two64, eps64, leastNormal, inf64, fromCount, magnitude}
 use Rattle.real.specs.Arithmetic.{rounded}
 use Rattle.real.proofs.Cases.{either, by-test, by-truth}
-use Rattle.real.proofs.Closed.{nought, one, two}
+use Rattle.real.proofs.Closed.{nought, one}
 use Rattle.real.proofs.Counts.{count-natural, count-order}
-use Rattle.real.proofs.SignedOrder.{SLe, natural, nat-fin, nat-above, neg-anti, neg-le-nonneg, le→sle, sle→le, le-tr, le-total, apart, nlt→le, lt→le, number-left, here-or-on, le-self, in-fin, add-mono, sub-opened, neg-finite, mul-mag, mul-nmono, mul-smono, mul-commute, zero-times, div-opened, round-below, zero-of, mag-nat, mag-in, mag-self, mag-finite}
+use Rattle.real.proofs.SignedOrder.{natural, nat-fin, nat-above, neg-anti, neg-le-nonneg, le→sle, sle→le, le-tr, le-total, apart, nlt→le, lt→le, number-left, here-or-on, le-self, in-fin, add-mono, sub-opened, neg-finite, mul-mag, mul-nmono, mul-smono, mul-commute, zero-times, div-opened, round-below, zero-of, mag-nat, mag-in, mag-self, mag-finite}
 use Rattle.root.specs.Root.{root}
 use Rattle.elementary.specs.Ln.{lnv}
 use Rattle.elementary.specs.LnSteps.{LnFinite}
@@ -297,9 +296,10 @@ module _ (u : Setup) (rss trace : Float) where
   -- D below -EPS, and 17 not met: guarded is plus infinity, and unguarded never
   pub guard-differs : Sized u → T (finite sigma) → T (lt d (neg eps64))
       → (correctedAic (under Guarded u) rss trace ≡ Value inf64) × (correctedAic (under Unguarded u) rss trace ≡ Value inf64 → ⊥)
-  guard-differs s f h =
-      (aicc-exhausted (under Guarded u) rss trace f (below-guarded d h),
-      λ e. never-infinite n (floored sigma) trace (omega (arith, s .enough)) (s .few) (floored-ln f) h (ap valueOf (sym (unguarded-value f h) ∙ e)))
+  guard-differs s f h = (
+    aicc-exhausted (under Guarded u) rss trace f (below-guarded d h),
+    λ e. never-infinite n (floored sigma) trace (omega (arith, s .enough)) (s .few) (floored-ln f) h (ap valueOf (sym (unguarded-value f h) ∙ e)),
+  )
     where
       valueOf : Criterion → Float
       valueOf (Value v) = v

@@ -1,8 +1,8 @@
--- The jobs that the criteria tell apart, by computing: `guarded-examples`.
+-- The job that the criteria tell apart, by computing: `guarded-example`.
 use mathlib.Core.Path.{refl}
-use Rattle.examples.specs.Guarded.{GuardedExamples}
-use Rattle.examples.proofs.Computing.{searching}
+use Rattle.examples.specs.Guarded.{GuardedExample}
+use Rattle.examples.proofs.Computing.{fitting}
 
-pub guarded-examples : GuardedExamples
-unfolding searching
-guarded-examples = record { one-unguarded = refl; one-guarded = refl; line-unguarded = tt; line-guarded = refl }
+pub guarded-example : GuardedExample
+unfolding fitting
+guarded-example = record { one-unguarded = refl; one-guarded = refl }
