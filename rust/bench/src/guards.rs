@@ -147,7 +147,8 @@ fn seen_of(groups: &[Group], count: u64) -> Seen {
     seen
 }
 
-/// Random, searched and damaged jobs, and those at each limit.
+/// Random, searched and damaged jobs, and those at each limit. (Searches with more observations are left to the comparison: there D
+/// is never below 0.)
 #[test]
 fn random_jobs_by_either() {
     if !AVAILABLE {
@@ -159,13 +160,11 @@ fn random_jobs_by_either() {
         Group::Damaged,
         Group::SafeCrate,
         Group::Random,
-        Group::Searches,
     ];
     let seen = seen_of(&groups, 12_000);
-    assert!(seen.jobs > 10_000 && seen.searched > 2_000, "{}", seen.jobs);
-    assert!(seen.scored_apart > 100, "{}", seen.scored_apart);
-    assert!(seen.placed_apart > 100, "{}", seen.placed_apart);
-    assert!(!seen.refused.is_empty());
+    assert!(seen.jobs > 17_000 && seen.searched > 4_000);
+    assert!(seen.scored_apart > 2_000 && seen.placed_apart > 1_000);
+    assert!(seen.refused.len() > 100 && seen.refused.contains(&14));
 }
 
 /// Few observations and few values, where D is below 0 most often.
@@ -175,7 +174,8 @@ fn small_jobs_by_either() {
         return;
     }
     let seen = seen_of(&[Group::SmallGrid], 0);
-    assert!(seen.scored_apart > 1_000, "{}", seen.scored_apart);
+    assert!(seen.jobs > 80_000 && seen.searched > 12_000);
+    assert!(seen.scored_apart > 30_000 && seen.placed_apart > 1_000);
 }
 
 /// Every trial of the guarded search scores +infinity, so that the first point is the best, where the final fit fails.
