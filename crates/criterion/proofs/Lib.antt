@@ -1,2 +1,3 @@
 pub mod Published
+pub mod Falls
 pub mod Guard
