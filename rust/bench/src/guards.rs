@@ -1,7 +1,7 @@
 //! Fits by either criterion (02's wish 9) on numbers: unguarded against 000, guarded against 000 with the one line added.
 
 use oracle::jobs::{Group, Take};
-use oracle::{AVAILABLE, Answer, FILL, Job, bits, reals};
+use oracle::{AVAILABLE, Answer, FILL, Job, MISSING, bits, reals};
 
 mod linked {
     unsafe extern "C" {
@@ -147,12 +147,12 @@ fn seen_of(groups: &[Group], count: u64) -> Seen {
     seen
 }
 
-/// Random, searched and damaged jobs, and those at each limit. (Searches with more observations are left to the comparison: there D
-/// is never below 0.)
+/// Random, searched and damaged jobs, and those at each limit. (The comparison's searches with more observations take a minute, and no
+/// criterion tells one of them apart.)
 #[test]
 fn random_jobs_by_either() {
     if !AVAILABLE {
-        return;
+        return println!("{MISSING}");
     }
     let groups = [
         Group::Corners,
@@ -171,7 +171,7 @@ fn random_jobs_by_either() {
 #[test]
 fn small_jobs_by_either() {
     if !AVAILABLE {
-        return;
+        return println!("{MISSING}");
     }
     let seen = seen_of(&[Group::SmallGrid], 0);
     assert!(seen.jobs > 80_000 && seen.searched > 12_000);
@@ -185,5 +185,7 @@ fn three_on_a_line_end_with_14_only_when_guarded() {
     let job = Job::new(&coords, &[0.0, 1.0, 0.0], &[0.0; 3], 1, (1, 2, 0));
     let numbers = [Criterion::Unguarded, Criterion::Guarded].map(|c| proved(&job, c).0.number);
     assert_eq!(numbers, [0, 14]);
-    Seen::default().compare(&job);
+    if AVAILABLE {
+        Seen::default().compare(&job);
+    }
 }
