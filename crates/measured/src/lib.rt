@@ -14,7 +14,6 @@ ghost use Rattle.neighbours.specs.Walk.{walkIn};
 ghost use Rattle.measured.specs.Walks.{ownBy, endOf, walksOf, askedOf};
 ghost use Rattle.gwr.specs.Fit.{gwrFit};
 ghost use Rattle.measured.specs.Fits.{criterionBy, toldOf, seenOf, fitSeen, judgedFit};
-ghost use Rattle.setup.specs.Options.{judgedBy};
 use criterion::Summary;
 use gwr::FitAnswer;
 use kernel::GwrKernel;

@@ -5,9 +5,9 @@ use Prim.Native.Nat.{ℕ, _≤_, _<_}
 use native.Mathlib.Omega.{arith}
 use borrow.Author.Tests.{eqb-true, eqb-false}
 use lib.Dec.{eqb}
+use Rattle.real.proofs.Cases.{either}
 use Rattle.setup.specs.declared.GwrCriterion.the-variants.{Unguarded}
 use Rattle.setup.specs.declared.GwrOptions.{GwrOptions}
-use Rattle.real.proofs.Cases.{either}
 use Rattle.request.specs.declared.Choice.{Choice}
 use Rattle.request.specs.declared.Choice.the-variants as choice
 use Rattle.request.specs.declared.KernelChoice.{KernelChoice}

@@ -1,6 +1,5 @@
 // Whether two values are the same, reals by their bits.
 use criterion::Criterion;
-use criterion::Summary;
 use golden::Bracket;
 use job::Answer;
 use kernel::GwrKernel;

@@ -11,7 +11,7 @@ mod tally;
 use setup::GwrCriterion;
 use tally::Tally;
 
-// The same jobs, by this criterion.
+// The jobs of one seed, by this criterion.
 fn play_all(criterion: GwrCriterion) -> Tally {
     let mut t = Tally::new();
     let mut seed = 20261115u64;
