@@ -41,6 +41,12 @@ const INSERTED: [(&str, &str); 2] = [
     ),
 ];
 
+/// 02's guarded criterion (wish 9): the line that 000 has in addition, and the one that it is put before. 17 is behind it already.
+const GUARD: (&str, &str) = (
+    "if denom <= f64::EPSILON { return Ok(f64::INFINITY); }",
+    "    if denom.abs() <= f64::EPSILON {",
+);
+
 /// Puts one text in another's places, of which there must be so many.
 fn replace(text: &mut String, from: &str, to: &str, places: usize) {
     let found = text.matches(from).count();
@@ -50,6 +56,11 @@ fn replace(text: &mut String, from: &str, to: &str, places: usize) {
         ));
     }
     *text = text.replace(from, to);
+}
+
+/// Puts a line before another one, of which there must be one.
+fn insert(text: &mut String, added: &str, line: &str) {
+    replace(text, line, &format!("    {added}\n{line}"), 1);
 }
 
 /// `GWR_SRC`, or the first `shared/docs/src` beside the repository or further up.
@@ -90,13 +101,15 @@ fn main() {
         replace(&mut text, from, to, places);
     }
     for (call, line) in INSERTED {
-        replace(&mut text, line, &format!("    {call}\n{line}"), 1);
+        insert(&mut text, call, line);
     }
     let out = PathBuf::from(env::var_os("OUT_DIR").expect("cargo sets OUT_DIR"));
     fs::write(out.join("platform.rs"), &text).expect("OUT_DIR can be written");
     for (from, to, places) in STEPS {
         replace(&mut text, from, to, places);
     }
-    fs::write(out.join("steps.rs"), text).expect("OUT_DIR can be written");
+    fs::write(out.join("steps.rs"), &text).expect("OUT_DIR can be written");
+    insert(&mut text, GUARD.0, GUARD.1);
+    fs::write(out.join("guarded.rs"), text).expect("OUT_DIR can be written");
     println!("cargo::rustc-cfg=gwr_source");
 }

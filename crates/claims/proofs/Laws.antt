@@ -27,6 +27,7 @@ pub use Rattle.row.proofs.Rows.{row-long, put-long}
 pub use Rattle.local.proofs.Lengths.{beta-eight}
 pub use Rattle.local.proofs.Refusals.{AtLocation, OutcomeAt, location-at}
 pub use Rattle.criterion.proofs.Published.{published-exact, aicc-rounded, aicc-refused, aicc-exhausted, aicc-floored}
+pub use Rattle.criterion.proofs.Guard.{guard-same, guard-differs, guard-nan}
 pub use Rattle.golden.proofs.Kiefer.{round-kiefer, searched, round-narrows, bottom-kept, bottom-stays, search-span}
 pub use Rattle.golden.proofs.Points.{near-golden, start-section, round-section, residues, golden-section}
 pub use Rattle.golden.proofs.Round.{G-is, G2-is}
@@ -43,7 +44,7 @@ pub use Rattle.stepping.proofs.Sounds.{sound-few}
 pub use Rattle.fitness.proofs.Fits.{fit-means, kinds-means, ended-few}
 pub use Rattle.job.proofs.Runs.{steps-keep, run-few, run-keeps}
 pub use Rattle.job.proofs.Turning.{turn-ended, turn-lent, turn-decides}
-pub use Rattle.request.proofs.Options.{unknown-means}
+pub use Rattle.request.proofs.Options.{unknown-means, bytes-unguarded}
 pub use Rattle.weighing.proofs.Judged.{weigh-decides, weight-decides, weight-known, distance-means}
 pub use Rattle.calls.proofs.Judged.{call-decides}
 pub use Rattle.calls.proofs.Served.{call-passed, call-untouched}

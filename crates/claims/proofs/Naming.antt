@@ -8,19 +8,19 @@ use lib.ListN.{length}
 use lib.Ieee.{Float}
 use Rattle.checks.specs.declared.Check.the-variants as check
 use Rattle.local.specs.declared.Outcome.the-variants as outcome
-use Rattle.claims.specs.Words.{Row, ruled, judge, NoneOf, Check, GwrKernel, GwrBandwidth, AdaptiveKnn, Setup, Data, setupOf, resolveCount, weightFrom, weightsFrom, normalStep, equationsOf, eliminatedOf, fitCoefficients, squaresStep, sumSquares, localRSquared, valuesAt, solveLocal, solveLocation, Outcome, Solved, correctedAic, Criterion, unusableGiven, seeksDistance, nothingBetween, optionTestsAt, fitTests, resolveInitialBandwidth, planAt, accepted, acceptOf, Acceptance, Settled, rowFound, afterSolve, visitAt, visit, fitAllLocations, endingAt, Course, Going, Stopped, Sweep, Swept, solvesOf, finishOf, answered, fitFrom, finalOf, gwrFit}
+use Rattle.claims.specs.Words.{Row, ruled, judge, NoneOf, Check, GwrKernel, GwrCriterion, GwrBandwidth, AdaptiveKnn, Setup, Data, setupOf, resolveCount, weightFrom, weightsFrom, normalStep, equationsOf, eliminatedOf, fitCoefficients, squaresStep, sumSquares, localRSquared, valuesAt, solveLocal, solveLocation, Outcome, Solved, correctedAic, Criterion, unusableGiven, seeksDistance, nothingBetween, optionTestsAt, fitTests, resolveInitialBandwidth, planAt, accepted, acceptOf, Acceptance, Settled, rowFound, afterSolve, visitAt, visit, fitAllLocations, endingAt, Course, Going, Stopped, Sweep, Swept, solvesOf, finishOf, answered, fitFrom, finalOf, gwrFit}
 use Rattle.claims.specs.DemandTwo.{byCount}
 use Rattle.claims.proofs.Laws.{related, named-count}
 use Rattle.gwr.specs.declared.FitAnswer.the-variants as fit
 
--- ---- of the options a final fit sees only the kernel
+-- ---- of the options a final fit sees only the kernel and the criterion
 
-module _ (d : Data) (kernel : GwrKernel) (n p j k : ℕ) (b : GwrBandwidth) where
+module _ (d : Data) (c : GwrCriterion) (kernel : GwrKernel) (n p j k : ℕ) (b : GwrBandwidth) where
   abbrev u : Setup
-  u = record { options = byCount kernel j; n = n; p = p }
+  u = record { options = byCount c kernel j; n = n; p = p }
 
   abbrev v : Setup
-  v = record { options = byCount kernel k; n = n; p = p }
+  v = record { options = byCount c kernel k; n = n; p = p }
 
   solve-blind : (i : ℕ) → solveLocation u d b i ≡ solveLocation v d b i
   unfolding solveLocation solveLocal weightsFrom weightFrom fitCoefficients eliminatedOf equationsOf normalStep valuesAt localRSquared sumSquares squaresStep
@@ -61,32 +61,32 @@ module _ (d : Data) (kernel : GwrKernel) (n p j k : ℕ) (b : GwrBandwidth) wher
 
 -- ---- and the plan of a count is that of what it becomes
 
-module _ (d : Data) (p : ℕ) (kernel : GwrKernel) (k : ℕ) (out : List Float) where
+module _ (d : Data) (p : ℕ) (c : GwrCriterion) (kernel : GwrKernel) (k : ℕ) (out : List Float) where
   abbrev n : ℕ
-  n = setupOf d p (byCount kernel k) .n
+  n = setupOf d p (byCount c kernel k) .n
 
   abbrev named : ℕ
   named = resolveCount k n p
 
   abbrev passes : Check
-  passes = judge (fitTests d p (byCount kernel k) (length out))
+  passes = judge (fitTests d p (byCount c kernel k) (length out))
 
-  accept-count : acceptOf d p (byCount kernel k) (length out) ≡ accepted passes (Settled (AdaptiveKnn named))
+  accept-count : acceptOf d p (byCount c kernel k) (length out) ≡ accepted passes (Settled (AdaptiveKnn named))
   unfolding acceptOf planAt resolveInitialBandwidth
   accept-count = refl
 
-  accept-named : acceptOf d p (byCount kernel named) (length out) ≡ accepted passes (Settled (AdaptiveKnn named))
+  accept-named : acceptOf d p (byCount c kernel named) (length out) ≡ accepted passes (Settled (AdaptiveKnn named))
   unfolding acceptOf planAt resolveInitialBandwidth optionTestsAt unusableGiven nothingBetween seeksDistance
   accept-named = ap (λ (c : ℕ). accepted passes (Settled (AdaptiveKnn c))) (named-count k n p)
 
-  pub by-count : NoneOf (fitTests d p (byCount kernel k) (length out)) → gwrFit d p (byCount kernel k) out ≡ finalOf (setupOf d p (byCount kernel k)) d (AdaptiveKnn named) 0 out
+  pub by-count : NoneOf (fitTests d p (byCount c kernel k) (length out)) → gwrFit d p (byCount c kernel k) out ≡ finalOf (setupOf d p (byCount c kernel k)) d (AdaptiveKnn named) 0 out
   unfolding gwrFit ruled
   by-count h =
-      ap (λ (a : Acceptance). answered a (setupOf d p (byCount kernel k)) d out) (accept-count ∙ ap (λ (c : Check). accepted c (Settled (AdaptiveKnn named))) h)
+      ap (λ (a : Acceptance). answered a (setupOf d p (byCount c kernel k)) d out) (accept-count ∙ ap (λ (c : Check). accepted c (Settled (AdaptiveKnn named))) h)
 
-  pub count-named : gwrFit d p (byCount kernel k) out ≡ gwrFit d p (byCount kernel named) out
+  pub count-named : gwrFit d p (byCount c kernel k) out ≡ gwrFit d p (byCount c kernel named) out
   unfolding gwrFit
   count-named =
-      ap (λ (a : Acceptance). answered a (setupOf d p (byCount kernel k)) d out) accept-count
-      ∙ answered-blind d kernel n p k named (AdaptiveKnn named) passes out
-      ∙ ap (λ (a : Acceptance). answered a (setupOf d p (byCount kernel named)) d out) (sym accept-named)
+      ap (λ (a : Acceptance). answered a (setupOf d p (byCount c kernel k)) d out) accept-count
+      ∙ answered-blind d c kernel n p k named (AdaptiveKnn named) passes out
+      ∙ ap (λ (a : Acceptance). answered a (setupOf d p (byCount c kernel named)) d out) (sym accept-named)

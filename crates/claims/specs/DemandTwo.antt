@@ -1,6 +1,6 @@
 -- Demand 2: document 01 sets the steps of exp and ln and adds limits; else the Rust rules. Kernels, golden section, AICc and square root are held against their published definitions, the listed spots apart.
 -- Definitions only; proofs/DemandTwo proves it, each part by a theorem of the crate that has the definition.
--- That `gwr_fit` equals `gwrFit`, in every bit of its answer and its output and on every input, is its contract; `gwrFit` is 000's `gwr_fit` line by line, the default count apart. Here is what it says beyond that.
+-- That `gwr_fit` equals `gwrFit`, in every bit of its answer and its output and on every input, is its contract; `gwrFit` is 000's `gwr_fit` line by line, the default count apart, of unguarded jobs, and with 02's line added of guarded ones. Here is what it says beyond that.
 use Prim.Native.Nat.{ℕ, _+_, _-_, _*_, _/_, _%_, _^_, _≤_, _<_, min, max}
 use mathlib.Core.Path.{_≡_}
 use mathlib.Core.Bool.{Bool, true, false, not, cond}
@@ -8,9 +8,9 @@ use mathlib.Core.List.{List, [], _∷_, List·Permᴰ}
 use lib.Dec.{T}
 use lib.IntN.{pos}
 use lib.ListN.{length}
-use lib.Ieee.{Float, nan, inf, fin, binary64, lt, le, eq, fits, isNan, toBits}
+use lib.Ieee.{Float, nan, inf, fin, binary64, neg, lt, le, eq, fits, isNan, toBits}
 use lib.Ieee.Scale.{finite}
-use Rattle.claims.specs.Words.{zero64, one64, leastNormal, inf64, fromCount, Fraction, fraction, fractionOf, Once, OnceBy, Arithmetic, rounded, exact, root, NearestRoot, floor708, expK, expv, lnv, LnFinite, SplitAs, DeviationNotFinite, GwrKernel, Gaussian, Bisquare, Exponential, unusable, weightOf, FromZeroToOne, kernelFormula, exactWeight, powerOfE, plainWeight, NoneOf, GwrBandwidth, AdaptiveKnn, Setup, Data, setupOf, ceilRoot, LeastRoot, resolveCount, At, between, nearestOf, allDistances, metDistances, Ascending, kthNearest, weightsAt, fitCoefficients, ExactFit, Solves, deviation, freedom, aiccPublished, aiccFormula, pi64, exhausted, correctedAic, Bracket, invPhi, invPhi2, G, G2, startOf, goesLeft, narrowOf, Span, Inside, Framed, KieferRound, Narrowed, triedOf, playedOf, SearchInside, Valley, ScoredBy, Follows, GwrOptions, bandwidthAt, fitTests, acceptOf, trialOf, goldenSectionMin, finalOf, gwrFit}
+use Rattle.claims.specs.Words.{zero64, one64, eps64, leastNormal, inf64, fromCount, Fraction, fraction, fractionOf, Once, OnceBy, Arithmetic, rounded, exact, root, NearestRoot, floor708, expK, expv, lnv, LnFinite, SplitAs, DeviationNotFinite, GwrKernel, Gaussian, Bisquare, Exponential, unusable, weightOf, FromZeroToOne, kernelFormula, exactWeight, powerOfE, plainWeight, NoneOf, GwrBandwidth, AdaptiveKnn, Setup, Data, under, setupOf, Sized, ceilRoot, LeastRoot, resolveCount, At, between, nearestOf, allDistances, metDistances, Ascending, kthNearest, weightsAt, fitCoefficients, ExactFit, Solves, deviation, freedom, aiccPublished, aiccFormula, pi64, exhausted, correctedAic, Bracket, invPhi, invPhi2, G, G2, startOf, goesLeft, narrowOf, Span, Inside, Framed, KieferRound, Narrowed, triedOf, playedOf, SearchInside, Valley, ScoredBy, Follows, GwrCriterion, Unguarded, Guarded, GwrOptions, optionsOf, named, bandwidthAt, fitTests, acceptOf, trialOf, goldenSectionMin, finalOf, gwrFit}
 use Rattle.claims.specs.Words.{NearPowerSeries}
 use Rattle.criterion.specs.declared.Criterion.the-variants as criterion
 use Rattle.golden.specs.Points as points
@@ -18,8 +18,8 @@ use Rattle.plan.specs.declared.Plan.the-variants as plan
 use Rattle.plan.specs.declared.Acceptance.the-variants as acceptance
 
 -- options that ask for a count and no search
-abbrev pub byCount : GwrKernel → ℕ → GwrOptions
-byCount kernel k = record { kernel = kernel; bandwidth = AdaptiveKnn k; «optimize_bandwidth» = false }
+abbrev pub byCount : GwrCriterion → GwrKernel → ℕ → GwrOptions
+byCount c kernel k = record { kernel = kernel; bandwidth = AdaptiveKnn k; «optimize_bandwidth» = false; criterion = c }
 
 pub record DemandTwo : Type 1 where
   -- ---- golden section: 000's `golden_section_min` as it is written
@@ -129,26 +129,35 @@ pub record DemandTwo : Type 1 where
   -- any other count is capped and raised alone, whatever p is, as in 000
   pub given-count : (k n p : ℕ) → 1 ≤ k → resolveCount k n p ≡ max (min k (n - 1)) 1
   -- an accepted fit by a count is the final fit with as many neighbours as the count becomes
-  pub by-count : (d : Data) (p : ℕ) (kernel : GwrKernel) (k : ℕ) (out : List Float) →
-      let u = setupOf d p (byCount kernel k) in
-      NoneOf (fitTests d p (byCount kernel k) (length out)) → gwrFit d p (byCount kernel k) out ≡ finalOf u d (AdaptiveKnn (resolveCount k (u .n) p)) 0 out
+  pub by-count : (d : Data) (p : ℕ) (c : GwrCriterion) (kernel : GwrKernel) (k : ℕ) (out : List Float) →
+      let u = setupOf d p (byCount c kernel k) in
+      NoneOf (fitTests d p (byCount c kernel k) (length out)) → gwrFit d p (byCount c kernel k) out ≡ finalOf u d (AdaptiveKnn (resolveCount k (u .n) p)) 0 out
   -- 02: equality with `gwr_fit` is judged by handing it the resolved count. A fit by a count is the fit by what the count becomes, accepted or refused
-  pub count-named : (d : Data) (p : ℕ) (kernel : GwrKernel) (k : ℕ) (out : List Float)
-      → gwrFit d p (byCount kernel k) out ≡ gwrFit d p (byCount kernel (resolveCount k (setupOf d p (byCount kernel k) .n) p)) out
+  pub count-named : (d : Data) (p : ℕ) (c : GwrCriterion) (kernel : GwrKernel) (k : ℕ) (out : List Float)
+      → gwrFit d p (byCount c kernel k) out ≡ gwrFit d p (byCount c kernel (resolveCount k (setupOf d p (byCount c kernel k) .n) p)) out
   -- ---- AICc: Fotheringham, Brunsdon and Charlton 2002
 
   -- the published formula in 000's order, each operation rounded once: the operations and 2 as above, the root the nearest to the exact one (`root-nearest`), ln by 01's steps
   pub aicc-formula : (u : Setup) (rss trace : Float) →
       let sigma = deviation rounded root (fromCount (u .n)) rss in
-      T (finite sigma) → T (not (le sigma zero64)) → T (not (exhausted (freedom rounded (fromCount (u .n)) trace)))
+      T (finite sigma) → T (not (le sigma zero64)) → T (not (exhausted (u .options .criterion) (freedom rounded (fromCount (u .n)) trace)))
       → correctedAic u rss trace ≡ criterion.Value (aiccFormula rounded pi64 lnv (fromCount (u .n)) sigma trace)
   -- 000's order is that of the publication where a product and a quotient may change places, as exact fractions do, whatever stands for π and ln
   pub aicc-order : (pi : Fraction) (ln : Fraction → Fraction) (n sigma trace : Fraction)
       → aiccPublished exact pi ln n sigma trace ≡ aiccFormula exact pi ln n sigma trace
-  -- the listed spots: a root of mean square of 0 is replaced by 2^-1022, |D| ≤ EPS gives +infinity, and one not finite is refusal 17
+  -- the listed spots: a root of mean square of 0 is replaced by 2^-1022, |D| ≤ EPS, or guarded D ≤ EPS, gives +infinity, and one not finite is refusal 17
   pub aicc-zero : (u : Setup) (rss trace : Float) →
       let sigma = deviation rounded root (fromCount (u .n)) rss in
-      T (finite sigma) → T (le sigma zero64) → T (not (exhausted (freedom rounded (fromCount (u .n)) trace)))
+      T (finite sigma) → T (le sigma zero64) → T (not (exhausted (u .options .criterion) (freedom rounded (fromCount (u .n)) trace)))
       → correctedAic u rss trace ≡ criterion.Value (aiccFormula rounded pi64 lnv (fromCount (u .n)) leastNormal trace)
-  pub aicc-exhausted : (u : Setup) (rss trace : Float) → T (finite (deviation rounded root (fromCount (u .n)) rss)) → T (exhausted (freedom rounded (fromCount (u .n)) trace)) → correctedAic u rss trace ≡ criterion.Value inf64
+  pub aicc-exhausted : (u : Setup) (rss trace : Float) → T (finite (deviation rounded root (fromCount (u .n)) rss)) → T (exhausted (u .options .criterion) (freedom rounded (fromCount (u .n)) trace)) → correctedAic u rss trace ≡ criterion.Value inf64
   pub aicc-refused : (u : Setup) (rss trace : Float) → T (not (finite (deviation rounded root (fromCount (u .n)) rss))) → correctedAic u rss trace ≡ criterion.Refused DeviationNotFinite
+  -- 02: guarded is unguarded wherever D is not below -EPS
+  pub guard-same : (u : Setup) (rss trace : Float) → T (not (lt (freedom rounded (fromCount (u .n)) trace) (neg eps64))) → correctedAic (under Guarded u) rss trace ≡ correctedAic (under Unguarded u) rss trace
+  -- where it is, and 17 is not met, guarded is +infinity and unguarded never is
+  pub guard-differs : (u : Setup) (rss trace : Float) → Sized u → T (finite (deviation rounded root (fromCount (u .n)) rss)) → T (lt (freedom rounded (fromCount (u .n)) trace) (neg eps64))
+      → (correctedAic (under Guarded u) rss trace ≡ criterion.Value inf64) × (correctedAic (under Unguarded u) rss trace ≡ criterion.Value inf64 → ⊥)
+  -- a D that is NaN is worked as it falls, to NaN, by either
+  pub guard-nan : (u : Setup) (rss trace : Float) → T (finite (deviation rounded root (fromCount (u .n)) rss)) → freedom rounded (fromCount (u .n)) trace ≡ nan → correctedAic u rss trace ≡ criterion.Value nan
+  -- byte calls and `gwrprint` know no other than unguarded
+  pub bytes-unguarded : (kernel kind bandwidth : ℕ) → named (optionsOf kernel kind bandwidth) .criterion ≡ Unguarded

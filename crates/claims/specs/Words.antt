@@ -4,7 +4,7 @@ unfoldable pub use Rattle.real.specs.Finite.{allFinite}
 unfoldable pub use Rattle.real.specs.Fold.{turns, range}
 pub use Rattle.real.specs.Fractions.{Fraction, fraction, fractionOf, Once, OnceBy}
 pub use Rattle.real.specs.Matrix.{Row, Matrix}
-pub use Rattle.real.specs.Reals.{zero64, fromCount, one64, leastNormal, inf64}
+pub use Rattle.real.specs.Reals.{zero64, fromCount, one64, eps64, leastNormal, inf64}
 unfoldable pub use Rattle.real.specs.Reals.{greater, magnitude}
 pub use Rattle.root.specs.Nearest.{NearestRoot}
 unfoldable pub use Rattle.root.specs.Root.{root}
@@ -26,9 +26,12 @@ unfoldable pub use Rattle.kernel.specs.Weight.{squaresOf, distanceOf, weightOf,
 pub use Rattle.kernel.specs.declared.GwrKernel.{GwrKernel}
 pub use Rattle.kernel.specs.declared.GwrKernel.the-variants.{Gaussian, Bisquare, Exponential}
 pub use Rattle.setup.specs.Data.{Data}
+pub use Rattle.setup.specs.Options.{under}
 pub use Rattle.setup.specs.Shape.{setupOf, Sized}
 pub use Rattle.setup.specs.declared.GwrBandwidth.{GwrBandwidth}
 pub use Rattle.setup.specs.declared.GwrBandwidth.the-variants.{Fixed, AdaptiveKnn}
+pub use Rattle.setup.specs.declared.GwrCriterion.{GwrCriterion}
+pub use Rattle.setup.specs.declared.GwrCriterion.the-variants.{Unguarded, Guarded}
 pub use Rattle.setup.specs.declared.GwrOptions.{GwrOptions}
 pub use Rattle.setup.specs.declared.Setup.{Setup}
 pub use Rattle.counts.specs.Count.{LeastRoot, resolveCount}

@@ -1,1 +1,3 @@
 pub mod Published
+pub mod Falls
+pub mod Guard

@@ -19,6 +19,7 @@ use Rattle.root.specs.Nearest.{NearestRoot}
 use Rattle.root.proofs.Nearest.{root-nearest, root-of-negative}
 use Rattle.elementary.specs.LnSteps.{LnFinite}
 use Rattle.elementary.proofs.LnRange.{ln-finite}
+use Rattle.setup.specs.declared.GwrCriterion.{GwrCriterion}
 use Rattle.setup.specs.declared.Setup.{Setup}
 use Rattle.refusal.specs.declared.Refusal.the-variants.{DeviationNotFinite}
 use Rattle.criterion.specs.declared.Criterion.the-variants.{Value, Refused}
@@ -119,6 +120,9 @@ module _ (u : Setup) (rss trace : Float) where
   abbrev n : ℕ
   n = u .n
 
+  abbrev guard : GwrCriterion
+  guard = u .options .criterion
+
   -- σ̂, rounded
   abbrev sigma : Float
   sigma = deviation rounded root (fromCount n) rss
@@ -145,9 +149,9 @@ module _ (u : Setup) (rss trace : Float) where
       ]
 
   -- σ̂ finite and above 0, D beyond EPS: the published formula, each operation rounded once
-  pub aicc-rounded : T (finite sigma) → T (not (le sigma zero64)) → T (not (exhausted (freedom rounded (fromCount n) trace))) → correctedAic u rss trace ≡ Value (aiccFormula rounded pi64 lnv (fromCount n) sigma trace)
+  pub aicc-rounded : T (finite sigma) → T (not (le sigma zero64)) → T (not (exhausted guard (freedom rounded (fromCount n) trace))) → correctedAic u rss trace ≡ Value (aiccFormula rounded pi64 lnv (fromCount n) sigma trace)
   unfolding correctedAic criterionOf floored
-  aicc-rounded f p d = rw (is-true (finite sigma) f, is-false (exhausted (freedom rounded (fromCount n) trace)) d, is-false (le sigma zero64) p)
+  aicc-rounded f p d = rw (is-true (finite sigma) f, is-false (exhausted guard (freedom rounded (fromCount n) trace)) d, is-false (le sigma zero64) p)
 
   -- σ̂ not finite: refusal 17
   pub aicc-refused : T (not (finite sigma)) → correctedAic u rss trace ≡ Refused DeviationNotFinite
@@ -155,11 +159,11 @@ module _ (u : Setup) (rss trace : Float) where
   aicc-refused f = rw (is-false (finite sigma) f)
 
   -- |D| ≤ EPS: plus infinity
-  pub aicc-exhausted : T (finite sigma) → T (exhausted (freedom rounded (fromCount n) trace)) → correctedAic u rss trace ≡ Value (inf false)
+  pub aicc-exhausted : T (finite sigma) → T (exhausted guard (freedom rounded (fromCount n) trace)) → correctedAic u rss trace ≡ Value (inf false)
   unfolding correctedAic criterionOf
-  aicc-exhausted f d = rw (is-true (finite sigma) f, is-true (exhausted (freedom rounded (fromCount n) trace)) d)
+  aicc-exhausted f d = rw (is-true (finite sigma) f, is-true (exhausted guard (freedom rounded (fromCount n) trace)) d)
 
   -- σ̂ of 0: the formula with 2^-1022 for σ̂
-  pub aicc-floored : T (finite sigma) → T (le sigma zero64) → T (not (exhausted (freedom rounded (fromCount n) trace))) → correctedAic u rss trace ≡ Value (aiccFormula rounded pi64 lnv (fromCount n) leastNormal trace)
+  pub aicc-floored : T (finite sigma) → T (le sigma zero64) → T (not (exhausted guard (freedom rounded (fromCount n) trace))) → correctedAic u rss trace ≡ Value (aiccFormula rounded pi64 lnv (fromCount n) leastNormal trace)
   unfolding correctedAic criterionOf floored
-  aicc-floored f p d = rw (is-true (finite sigma) f, is-false (exhausted (freedom rounded (fromCount n) trace)) d, is-true (le sigma zero64) p)
+  aicc-floored f p d = rw (is-true (finite sigma) f, is-false (exhausted guard (freedom rounded (fromCount n) trace)) d, is-true (le sigma zero64) p)

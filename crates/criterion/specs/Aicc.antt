@@ -7,6 +7,8 @@ use Rattle.real.specs.Reals.{zero64, eps64, leastNormal, inf64, fromCount, magn
 use Rattle.real.specs.Arithmetic.{rounded}
 use Rattle.root.specs.Root.{root}
 use Rattle.elementary.specs.Ln.{lnv}
+use Rattle.setup.specs.declared.GwrCriterion.{GwrCriterion}
+use Rattle.setup.specs.declared.GwrCriterion.the-variants.{Unguarded, Guarded}
 use Rattle.setup.specs.declared.Setup.{Setup}
 use Rattle.refusal.specs.declared.Refusal.the-variants.{DeviationNotFinite}
 use Rattle.criterion.specs.declared.Criterion.{Criterion}
@@ -22,19 +24,20 @@ pi64 = ofBits binary64 0x4009_21FB_5444_2D18
 unfoldable pub floored : Float → Float
 floored sigma = cond (le sigma zero64) leastNormal sigma
 
--- 01: if |D| ≤ EPS it is +infinity
-unfoldable pub exhausted : Float → Bool
-exhausted d = le (magnitude d) eps64
+-- 01: if |D| ≤ EPS it is +infinity; 02: guarded, if D ≤ EPS
+unfoldable pub exhausted : GwrCriterion → Float → Bool
+exhausted Unguarded d = le (magnitude d) eps64
+exhausted Guarded d = le d eps64
 
--- 000's `aicc` of a root of mean square that is finite: the published formula with each operation rounded once and ln by document 01's steps; a D below -EPS is worked as it falls
-unfoldable pub criterionOf : Float → Float → Float → Float
-criterionOf nf sigma trace = cond (exhausted (freedom rounded nf trace)) inf64 (aiccFormula rounded pi64 lnv nf (floored sigma) trace)
+-- 000's `aicc` of a root of mean square that is finite: the published formula with each operation rounded once and ln by document 01's steps; any other D, NaN among them, is worked as it falls
+unfoldable pub criterionOf : GwrCriterion → Float → Float → Float → Float
+criterionOf c nf sigma trace = cond (exhausted c (freedom rounded nf trace)) inf64 (aiccFormula rounded pi64 lnv nf (floored sigma) trace)
 
 -- 000's `corrected_aic`, of a job's setup, the sum of squared residuals and the trace; refusal 17 where the root of mean square is not finite
 unfoldable pub correctedAic : Setup → Float → Float → Criterion
 correctedAic u rss trace =
     let sigma = deviation rounded root (fromCount (u .n)) rss in
-    cond (finite sigma) (Value (criterionOf (fromCount (u .n)) sigma trace)) (Refused DeviationNotFinite)
+    cond (finite sigma) (Value (criterionOf (u .options .criterion) (fromCount (u .n)) sigma trace)) (Refused DeviationNotFinite)
 
 -- 000's `evaluate_aicc`: a trial's score is its AICc, or +infinity if AICc is refused or not finite
 unfoldable pub scoreOf : Criterion → Float

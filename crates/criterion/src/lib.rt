@@ -6,6 +6,7 @@ ghost use Rattle.elementary.specs.Ln.{lnv};
 ghost use Rattle.criterion.specs.Published.{freedom, aiccFormula};
 ghost use Rattle.criterion.specs.Aicc.{pi64, correctedAic, criterionOf, exhausted, floored, scoreOf, failedSummary};
 use refusal::Refusal;
+use setup::GwrCriterion;
 use setup::Setup;
 
 pub enum Criterion {
@@ -58,28 +59,32 @@ pub fn corrected_aic(u: Setup, rss: f64, trace: f64) -> Criterion
     let nf = real::from_count(u.n);
     let sigma = root::sqrt(rss / nf);
     if real::is_finite(sigma) {
-        return Criterion::Value(criterion_of(nf, sigma, trace));
+        let options = u.options;
+        let criterion = options.criterion;
+        return Criterion::Value(criterion_of(criterion, nf, sigma, trace));
     }
     Criterion::Refused(Refusal::DeviationNotFinite)
 }
 
 // AICc of n observations from the root of mean square and the trace: plus infinity where no degree of freedom is left.
-fn criterion_of(nf: f64, sigma: f64, trace: f64) -> f64
-    ensures { λ r. ⌜ r ≡ criterionOf nf sigma trace ⌝ }
+fn criterion_of(criterion: GwrCriterion, nf: f64, sigma: f64, trace: f64) -> f64
+    ensures { λ r. ⌜ r ≡ criterionOf criterion nf sigma trace ⌝ }
 {
     let d = (nf - 2.0) - trace;
-    if is_exhausted(d) {
+    if is_exhausted(criterion, d) {
         return real::infinity();
     }
     aicc_formula(nf, floored(sigma), trace, d)
 }
 
-// Whether the degrees of freedom are within 2^-52 of none. Fewer than none are not.
-fn is_exhausted(d: f64) -> bool
-    ensures { λ r. ⌜ r ≡ exhausted d ⌝ }
+// Whether the degrees of freedom are within 2^-52 of none. Fewer than none are only where guarded; no number is never.
+fn is_exhausted(criterion: GwrCriterion, d: f64) -> bool
+    ensures { λ r. ⌜ r ≡ exhausted criterion d ⌝ }
 {
-    let size = real::abs(d);
-    size <= 2.220446049250313e-16
+    match criterion {
+        GwrCriterion::Unguarded => real::abs(d) <= 2.220446049250313e-16,
+        GwrCriterion::Guarded => d <= 2.220446049250313e-16,
+    }
 }
 
 // A perfect fit's deviation of zero counts as the least normal number.

@@ -15,6 +15,7 @@ use Rattle.setup.specs.declared.GwrBandwidth.the-variants.{Fixed, AdaptiveKnn}
 use Rattle.counts.specs.Count.{resolveCount}
 use Rattle.setup.specs.declared.GwrOptions.{GwrOptions}
 use Rattle.setup.specs.Data.{Data, dataOf}
+use Rattle.setup.specs.Options.{unguarded}
 use Rattle.sweep.specs.declared.Finish.the-variants as finish
 use Rattle.gwr.specs.declared.FitAnswer.{FitAnswer}
 use Rattle.gwr.specs.declared.FitAnswer.the-variants as fit
@@ -36,7 +37,7 @@ abbrev pub fourData : Data
 fourData = dataOf fourPlaces [] fourLoads
 
 abbrev pub atDistance : GwrOptions
-atDistance = record { kernel = Bisquare; bandwidth = Fixed (wholeNumber 1); «optimize_bandwidth» = false }
+atDistance = unguarded Bisquare (Fixed (wholeNumber 1)) false
 
 -- ---- two pantries, no predictor, a count searched
 
@@ -50,7 +51,7 @@ abbrev pub twoData : Data
 twoData = dataOf twoPlaces [] twoLoads
 
 abbrev pub countSearched : GwrOptions
-countSearched = record { kernel = Bisquare; bandwidth = AdaptiveKnn 0; «optimize_bandwidth» = true }
+countSearched = unguarded Bisquare (AdaptiveKnn 0) true
 
 -- the bandwidth and the AICc of a fit that succeeds
 abbrev pub Reports : FitAnswer → Float → Type 0

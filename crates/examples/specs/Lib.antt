@@ -2,3 +2,4 @@ pub mod Examples
 pub mod Played
 pub mod ExactFits
 pub mod DefaultCounts
+pub mod Guarded

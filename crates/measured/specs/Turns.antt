@@ -11,6 +11,7 @@ use Rattle.kernel.specs.declared.GwrKernel.the-variants.{Gaussian, Bisquare, Ex
 use Rattle.setup.specs.declared.GwrBandwidth.the-variants.{Fixed}
 use Rattle.setup.specs.declared.GwrOptions.{GwrOptions}
 use Rattle.setup.specs.Data.{Data}
+use Rattle.setup.specs.Options.{unguarded}
 use Rattle.stepping.specs.declared.Job.{Job}
 use Rattle.starting.specs.Begin.{beginOf}
 use Rattle.job.specs.Turn.{turnOf}
@@ -21,7 +22,7 @@ kernelBy k = cond (eqb k 0) Gaussian (cond (eqb k 1) Bisquare Exponential)
 
 -- unsearched, at the distance 400
 abbrev pub optionsBy : ℕ → GwrOptions
-optionsBy k = record { kernel = kernelBy k; bandwidth = Fixed (ofBits binary64 0x4079_0000_0000_0000); «optimize_bandwidth» = false }
+optionsBy k = unguarded (kernelBy k) (Fixed (ofBits binary64 0x4079_0000_0000_0000)) false
 
 -- one turn of the allowance a: the record and the output after it
 unfoldable pub turnBy : Data → ℕ → ℕ → Job × List Float → Job × List Float

@@ -1,5 +1,6 @@
 // What rust/bench times or compares and no other call shows, with C linkage: square roots and exponentials of many numbers in place,
-// so that a timing of one has no call's cost in it, the turns of a job, and a walk that is stopped. Only rust/bench links it.
+// so that a timing of one has no call's cost in it, the turns of a job, a walk that is stopped, and a fit by either criterion. Only
+// rust/bench links it.
 ghost use mathlib.Core.Path.{_≡_};
 ghost use mathlib.Core.List.{map};
 ghost use Prim.Native.Nat.{_*_, _≤_};
@@ -11,12 +12,20 @@ ghost use Rattle.setup.specs.Data.{dataOf};
 ghost use Rattle.measured.specs.Turns.{kernelBy, playOf, turnsOf};
 ghost use Rattle.neighbours.specs.Walk.{walkIn};
 ghost use Rattle.measured.specs.Walks.{ownBy, endOf, walksOf, askedOf};
+ghost use Rattle.gwr.specs.Fit.{gwrFit};
+ghost use Rattle.measured.specs.Fits.{criterionBy, toldOf, seenOf, fitSeen, judgedFit};
+use criterion::Summary;
+use gwr::FitAnswer;
 use kernel::GwrKernel;
 use neighbours::Own;
 use neighbours::Walker;
+use refusal::Refusal;
+use request::Choice;
 use setup::GwrBandwidth;
+use setup::GwrCriterion;
 use setup::GwrOptions;
 use stepping::Job;
+use sweep::Finish;
 
 // Each number becomes its square root.
 #[no_mangle]
@@ -88,11 +97,7 @@ pub extern "C" fn zescolumba_turns(
 ) -> u64
     ensures { λ r. ⌜ (r, now (out .exit)) ≡ turnsOf (dataOf (now (coords .entry)) (now (x .entry)) (now (y .entry))) p kernel allowance turns (now (out .entry)) ⌝ }
 {
-    let options = GwrOptions {
-        kernel: kernel_by(kernel),
-        bandwidth: GwrBandwidth::Fixed(400.0),
-        optimize_bandwidth: false,
-    };
+    let options = GwrOptions::unguarded(kernel_by(kernel), GwrBandwidth::Fixed(400.0), false);
     let begun = starting::begin(coords, x, y, p, options, &*out);
     let first = begun.job;
     let last = play(first, coords, x, y, out, allowance, turns);
@@ -184,4 +189,83 @@ pub extern "C" fn zescolumba_walk(
         }
     }
     0
+}
+
+fn criterion_by(number: u32) -> GwrCriterion
+    ensures { λ r. ⌜ r ≡ criterionBy number ⌝ }
+{
+    if number == 0 {
+        return GwrCriterion::Unguarded;
+    }
+    GwrCriterion::Guarded
+}
+
+// The number, beside what a summary reports and how many rows were written.
+fn tell(number: u32, s: Summary, rows: usize, reals: &mut [f64; 2], counts: &mut [u64; 2]) -> u32
+    ensures { λ r. ⌜ (r, (now (reals .exit), now (counts .exit))) ≡ toldOf number s rows (now (reals .entry)) (now (counts .entry)) ⌝ }
+{
+    reals[0] = s.bandwidth;
+    reals[1] = s.aicc;
+    counts[0] = s.solves;
+    counts[1] = rows as u64;
+    number
+}
+
+// What is seen of an answer.
+fn seen_of(answer: FitAnswer, rows: usize, reals: &mut [f64; 2], counts: &mut [u64; 2]) -> u32
+    ensures { λ r. ⌜ (r, (now (reals .exit), now (counts .exit))) ≡ seenOf answer rows (now (reals .entry)) (now (counts .entry)) ⌝ }
+{
+    match answer {
+        FitAnswer::Rejected(r) => r.number(),
+        FitAnswer::Done(finish) => match finish {
+            Finish::Failed(r, s) => tell(r.number(), s, rows, reals, counts),
+            Finish::Fitted(s) => tell(0, s, rows, reals, counts),
+        },
+    }
+}
+
+// The fit by these options.
+fn fit_seen(
+    coords: &[f64],
+    x: &[f64],
+    y: &[f64],
+    p: usize,
+    options: GwrOptions,
+    out: &mut [f64],
+    reals: &mut [f64; 2],
+    counts: &mut [u64; 2],
+) -> u32
+    ensures { λ r. ⌜ ((r, (now (reals .exit), now (counts .exit))), now (out .exit)) ≡ fitSeen (gwrFit (dataOf (now (coords .entry)) (now (x .entry)) (now (y .entry))) p options (now (out .entry))) (now (reals .entry)) (now (counts .entry)) ⌝ }
+{
+    let fit = gwr::gwr_fit(coords, x, y, p, options, out);
+    let answer = fit.answer;
+    seen_of(answer, fit.rows, reals, counts)
+}
+
+// The fit of numbers by the byte call's numbers of kernel, kind and bandwidth, and a criterion's: 0 unguarded, any other guarded. Answers
+// the refusal's number; bandwidth and AICc, solves and rows are lent.
+#[no_mangle]
+pub extern "C" fn zescolumba_fit_judged(
+    coords: &[f64],
+    x: &[f64],
+    y: &[f64],
+    p: usize,
+    kernel: u64,
+    kind: u64,
+    bandwidth: u64,
+    criterion: u32,
+    out: &mut [f64],
+    reals: &mut [f64; 2],
+    counts: &mut [u64; 2],
+) -> u32
+    ensures { λ r. ⌜ ((r, (now (reals .exit), now (counts .exit))), now (out .exit)) ≡ judgedFit (dataOf (now (coords .entry)) (now (x .entry)) (now (y .entry))) p kernel kind bandwidth criterion (now (out .entry)) (now (reals .entry)) (now (counts .entry)) ⌝ }
+{
+    let choice = request::options_of(kernel, kind, bandwidth);
+    match choice {
+        Choice::Unknown => Refusal::UnknownNumber.number(),
+        Choice::Known(o) => {
+            let options = o.judged_by(criterion_by(criterion));
+            fit_seen(coords, x, y, p, options, out, reals, counts)
+        }
+    }
 }

@@ -5,6 +5,8 @@ use Prim.Native.Nat.{ℕ, _≤_, _<_}
 use native.Mathlib.Omega.{arith}
 use borrow.Author.Tests.{eqb-true, eqb-false}
 use lib.Dec.{eqb}
+use Rattle.real.proofs.Cases.{either}
+use Rattle.setup.specs.declared.GwrCriterion.the-variants.{Unguarded}
 use Rattle.setup.specs.declared.GwrOptions.{GwrOptions}
 use Rattle.request.specs.declared.Choice.{Choice}
 use Rattle.request.specs.declared.Choice.the-variants as choice
@@ -99,3 +101,16 @@ options-known choice.Unknown e = absurd (true≢false e)
 pub kernel-known : (c : KernelChoice) → isUnknownKernel c ≡ false → c ≡ kernel.Known (namedKernel c)
 kernel-known (kernel.Known k) e = refl
 kernel-known kernel.Unknown e = absurd (true≢false e)
+
+-- ---- the criterion: bytes know 000's alone
+
+kind-unguarded : (k : GwrKernel) (kind bandwidth : ℕ) → named (kindOf k kind bandwidth) .criterion ≡ Unguarded
+unfolding kindOf
+kind-unguarded k kind bandwidth = either Plain (eqb kind 0) _ _ refl (either Plain (eqb kind 1) _ _ refl (either Plain (eqb kind 2) _ _ refl (either Plain (eqb kind 3) _ _ refl refl)))
+  where
+    Plain : Choice → Type 0
+    Plain c = named c .criterion ≡ Unguarded
+
+pub bytes-unguarded : (number kind bandwidth : ℕ) → named (optionsOf number kind bandwidth) .criterion ≡ Unguarded
+unfolding optionsOf
+bytes-unguarded number kind bandwidth = either (λ (c : Choice). named c .criterion ≡ Unguarded) (isUnknownKernel (kernelOf number)) _ _ refl (kind-unguarded (namedKernel (kernelOf number)) kind bandwidth)

@@ -8,7 +8,7 @@ use Rattle.kernel.specs.declared.GwrKernel.the-variants.{Gaussian, Bisquare, Ex
 use Rattle.setup.specs.declared.GwrBandwidth.{GwrBandwidth}
 use Rattle.setup.specs.declared.GwrBandwidth.the-variants.{Fixed, AdaptiveKnn}
 use Rattle.setup.specs.declared.GwrOptions.{GwrOptions}
-use Rattle.setup.specs.Options.{defaultOptions}
+use Rattle.setup.specs.Options.{unguarded, defaultOptions}
 use Rattle.request.specs.declared.KernelChoice.{KernelChoice}
 use Rattle.request.specs.declared.KernelChoice.the-variants as kernel
 use Rattle.request.specs.declared.Choice.{Choice}
@@ -35,8 +35,9 @@ namedKernel kernel.Unknown = defaultOptions .kernel
 
 -- ---- options
 
+-- 02: byte calls and `gwrprint` know no other criterion
 abbrev pub chosenOf : GwrKernel → GwrBandwidth → Bool → Choice
-chosenOf k b search = choice.Known (record { kernel = k; bandwidth = b; «optimize_bandwidth» = search })
+chosenOf k b search = choice.Known (unguarded k b search)
 
 -- 01: kind 0 distance, 1 count, 2 and 3 the same searched; a distance comes by its bits
 unfoldable pub kindOf : GwrKernel → ℕ → ℕ → Choice

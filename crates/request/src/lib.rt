@@ -40,12 +40,7 @@ pub fn kernel_of(number: u64) -> KernelChoice
 fn chosen_of(kernel: GwrKernel, bandwidth: GwrBandwidth, optimize_bandwidth: bool) -> Choice
     ensures { λ r. ⌜ r ≡ chosenOf kernel bandwidth «optimize_bandwidth» ⌝ }
 {
-    let options = GwrOptions {
-        kernel,
-        bandwidth,
-        optimize_bandwidth,
-    };
-    Choice::Known(options)
+    Choice::Known(GwrOptions::unguarded(kernel, bandwidth, optimize_bandwidth))
 }
 
 // Kind 0 is a distance and 1 a count; 2 and 3 are the same, searched.

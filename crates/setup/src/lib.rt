@@ -1,7 +1,7 @@
 // What a job is: its bandwidth, its options, and its sizes. None of these changes while it is worked.
 ghost use mathlib.Core.Path.{_≡_};
 ghost use Rattle.setup.specs.Bandwidth.{Usable, reportValue};
-ghost use Rattle.setup.specs.Options.{defaultOptions};
+ghost use Rattle.setup.specs.Options.{unguarded, defaultOptions, judgedBy};
 use kernel::GwrKernel;
 
 // 000's bandwidth: a distance, or a number of neighbours.
@@ -23,24 +23,53 @@ impl GwrBandwidth {
     }
 }
 
-// 000's options.
+// How AICc is judged where more is spent than the degrees of freedom: worked as it falls, as in 000, or plus infinity.
+pub enum GwrCriterion {
+    Unguarded,
+    Guarded,
+}
+
+// 000's options, and the criterion.
 pub struct GwrOptions {
     pub kernel: GwrKernel,
     pub bandwidth: GwrBandwidth,
     pub optimize_bandwidth: bool,
+    pub criterion: GwrCriterion,
 }
 
 impl GwrOptions {
+    // What 000's options say.
+    pub fn unguarded(kernel: GwrKernel, bandwidth: GwrBandwidth, optimize_bandwidth: bool) -> Self
+        ensures { λ r. ⌜ r ≡ unguarded kernel bandwidth «optimize_bandwidth» ⌝ }
+    {
+        GwrOptions {
+            kernel,
+            bandwidth,
+            optimize_bandwidth,
+            criterion: GwrCriterion::Unguarded,
+        }
+    }
+
     // Bisquare, count 0, no search.
     pub fn default_options() -> Self
         ensures { λ r. ⌜ r ≡ defaultOptions ⌝ }
     {
         let kernel = GwrKernel::Bisquare;
         let bandwidth = GwrBandwidth::AdaptiveKnn(0);
+        GwrOptions::unguarded(kernel, bandwidth, false)
+    }
+
+    // The same judged by another criterion.
+    pub fn judged_by(self, criterion: GwrCriterion) -> Self
+        ensures { λ r. ⌜ r ≡ judgedBy criterion self ⌝ }
+    {
+        let kernel = self.kernel;
+        let bandwidth = self.bandwidth;
         GwrOptions {
             kernel,
             bandwidth,
-            optimize_bandwidth: false,
+            optimize_bandwidth: self.optimize_bandwidth,
+            criterion,
         }
     }
 }

@@ -1,10 +1,10 @@
 // Whether two values are the same, reals by their bits.
 use criterion::Criterion;
-use criterion::Summary;
 use golden::Bracket;
 use job::Answer;
 use kernel::GwrKernel;
 use setup::GwrBandwidth;
+use setup::GwrCriterion;
 use setup::Setup;
 use stepping::Job;
 use stepping::Stage;
@@ -60,6 +60,13 @@ fn kernel_number(k: GwrKernel) -> u32 {
         GwrKernel::Gaussian => 0,
         GwrKernel::Bisquare => 1,
         GwrKernel::Exponential => 2,
+    }
+}
+
+fn is_guarded(c: GwrCriterion) -> bool {
+    match c {
+        GwrCriterion::Unguarded => false,
+        GwrCriterion::Guarded => true,
     }
 }
 
@@ -119,7 +126,12 @@ fn same_setup(a: Setup, b: Setup) -> bool {
     let bandwidth_a = options_a.bandwidth;
     let bandwidth_b = options_b.bandwidth;
     let sizes = both(a.n == b.n, a.p == b.p);
-    let flags = options_a.optimize_bandwidth == options_b.optimize_bandwidth;
+    let criterion_a = options_a.criterion;
+    let criterion_b = options_b.criterion;
+    let flags = both(
+        options_a.optimize_bandwidth == options_b.optimize_bandwidth,
+        is_guarded(criterion_a) == is_guarded(criterion_b),
+    );
     let kernels = kernel_number(kernel_a) == kernel_number(kernel_b);
     both(
         both(sizes, flags),

@@ -4,6 +4,7 @@ ghost use Prim.Native.Nat.{_<_, _≤_, _^_};
 ghost use lib.ListN.{length};
 use kernel::GwrKernel;
 use setup::GwrBandwidth;
+use setup::GwrCriterion;
 use setup::GwrOptions;
 
 pub struct Case {
@@ -73,7 +74,7 @@ fn bandwidth_of(k: u64, seed: u64) -> GwrBandwidth {
 }
 
 // Case k: every kernel and kind in turn, sizes and values from the seed.
-pub fn make_case(seed: u64, k: u64) -> Case
+pub fn make_case(seed: u64, k: u64, criterion: GwrCriterion) -> Case
     requires { ⌜ seed < 2 ^ 31 ⌝ }
     ensures { λ r. ⌜ (r .n ≤ 10) × (r .p ≤ 2) × (r .seed < 2 ^ 31) ⌝ }
     ensures { λ r. ⌜ (length (r .coords) ≡ 24) × (length (r .x) ≡ 36) × (length (r .y) ≡ 12) ⌝ }
@@ -87,6 +88,7 @@ pub fn make_case(seed: u64, k: u64) -> Case
         kernel,
         bandwidth,
         optimize_bandwidth: k / 6 % 2 == 1,
+        criterion,
     };
     let a = next_seed(seed);
     let b = fill(&mut coords, a, draw(a, 8));

@@ -8,15 +8,24 @@ mod refuse;
 mod report;
 mod tally;
 
+use setup::GwrCriterion;
 use tally::Tally;
 
-fn main() {
+// The jobs of one seed, by this criterion.
+fn play_all(criterion: GwrCriterion) -> Tally {
     let mut t = Tally::new();
     let mut seed = 20261115u64;
     for k in 0..400u64 {
         seed = made::next_seed(seed);
-        let case = made::make_case(seed, k);
+        let case = made::make_case(seed, k, criterion);
         t = play::play_case(case, t);
     }
-    report::print(refuse::refuse_unfit(t));
+    t
+}
+
+fn main() {
+    let unguarded = play_all(GwrCriterion::Unguarded);
+    report::print(refuse::refuse_unfit(unguarded));
+    report::guarded();
+    report::print(play_all(GwrCriterion::Guarded));
 }

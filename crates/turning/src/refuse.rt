@@ -124,11 +124,7 @@ fn bandwidth_of(k: usize) -> GwrBandwidth {
 }
 
 fn record(row: Row) -> Job {
-    let options = GwrOptions {
-        kernel: GwrKernel::Gaussian,
-        bandwidth: bandwidth_of(row.kind),
-        optimize_bandwidth: true,
-    };
+    let options = GwrOptions::unguarded(GwrKernel::Gaussian, bandwidth_of(row.kind), true);
     let trials = Trials {
         bracket: Bracket::none(),
         made: row.trials,

@@ -20,6 +20,11 @@ fn refusals(word: &[u8], counts: [u64; 100]) {
     }
 }
 
+// What stands before the counts of the guarded jobs.
+pub fn guarded() {
+    io::write_all(STDOUT_FILENO, b"guarded:\n");
+}
+
 pub fn print(t: Tally) {
     line(b"jobs ", t.jobs);
     line(b"lists of turns ", t.lists);

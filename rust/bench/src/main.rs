@@ -7,6 +7,8 @@
 
 mod accuracy;
 mod fits;
+#[cfg(test)]
+mod guards;
 mod single;
 mod stack;
 mod timing;

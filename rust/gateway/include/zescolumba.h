@@ -33,7 +33,8 @@ extern "C" {
  * y          n responses                                 out  at least n * (p + 4) numbers
  * bandwidth  the bits of a distance, or a count. An unsearched count of 0 becomes the larger of p + 3 and the least whole number
  *            whose square reaches n; any unsearched count is then capped at n - 1 and raised to at least 1
- * summary    at least 24 bytes: bandwidth, AICc, number of local solves
+ * summary    at least 24 bytes: bandwidth, AICc, number of local solves. AICc is unguarded: where n - 2 - trace is below zero it is
+ *            worked as it falls
  *
  * Row i of out: p + 1 coefficients with the intercept first, prediction, residual, local R squared.
  * Answers 0, or the number of the refusal. 1 to 13 and 18, of the input, write nothing. 14 to 17, met while solving, leave the rows

@@ -164,7 +164,8 @@ pub struct GwrResult {
     pub local_r2: Vec<f64>,
     /// The bandwidth: a distance, or a count as a real.
     pub bandwidth: f64,
-    /// Corrected Akaike criterion; it may be infinite or NaN.
+    /// Corrected Akaike criterion, unguarded as in the ported module: where fewer than no degrees of freedom are left it is worked
+    /// as it falls. It may be infinite or NaN.
     pub aicc: f64,
     /// Local solves that were made, those of the search among them.
     pub solves: u64,

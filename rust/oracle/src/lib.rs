@@ -2,8 +2,9 @@
 //! where it has none (limits, byte lengths, unknown numbers, output too short). 000 has a default count of its own, so it is
 //! handed the count that 02 says an unsearched count 0 becomes ([`default_count`]).
 //!
-//! 000 is taken at build time from the folder of source documents (see build.rs), twice: with 01's steps for exp and ln
-//! ([`steps`]), which is what is compared, and with the platform's ([`platform`]), for times. Without it [`AVAILABLE`] is false.
+//! 000 is taken at build time from the folder of source documents (see build.rs), three times: with 01's steps for exp and ln
+//! ([`steps`]), which is what is compared, the same with the line that 02's guarded criterion adds ([`guarded`]), and with the
+//! platform's exp and ln ([`platform`]), for times. Without it [`AVAILABLE`] is false.
 
 #![forbid(unsafe_code)]
 
@@ -206,6 +207,16 @@ impl Job {
 
     /// What the fit call must answer, and every byte that it must leave. Only where [`AVAILABLE`].
     pub fn expected(&self) -> Answer {
+        self.expected_by(steps::fit)
+    }
+
+    /// The same of a guarded fit.
+    pub fn expected_guarded(&self) -> Answer {
+        self.expected_by(guarded::fit)
+    }
+
+    /// The same by one of the readings of 000.
+    fn expected_by(&self, fit: fn(&Job) -> Fitted) -> Answer {
         let mut answer = Answer {
             number: 0,
             out: vec![FILL; self.out_len],
@@ -365,6 +376,11 @@ side!(
     /// 000 with 01's steps for exp and ln.
     steps,
     "/steps.rs"
+);
+side!(
+    /// The same, guarded.
+    guarded,
+    "/guarded.rs"
 );
 side!(
     /// 000 with the platform's exp and ln.
@@ -540,6 +556,19 @@ mod tests {
             assert_eq!(own.rows, named.rows);
         }
         assert_eq!(listing().with_default_of_000(), None);
+    }
+
+    #[test]
+    fn only_a_guard_refuses_what_is_spent() {
+        // One pantry: its own leverage is 1, and D is -2.
+        let alone = Job::new(&[0.0, 0.0], &[], &[5.0], 0, (1, 0, 1.0f64.to_bits()));
+        let (falls, guarded) = (alone.expected(), alone.expected_guarded());
+        assert_eq!((falls.number, guarded.number), (0, 0));
+        assert_eq!(falls.out, guarded.out);
+        assert_eq!(number(&falls.summary, 1), 0xC096_1FD1_E108_A3A2);
+        assert_eq!(number(&guarded.summary, 1), f64::INFINITY.to_bits());
+        // Four at two places: D is 0, and so it is +infinity by both.
+        assert_eq!(listing().expected(), listing().expected_guarded());
     }
 
     #[test]

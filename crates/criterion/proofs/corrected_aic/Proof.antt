@@ -14,5 +14,5 @@ corrected-aic-spec =
     (λ c κs. search needs)
     (λ c κs. search needs)
     (λ c κs. search needs)
-    (λ c. rw (c .criterion-of .ensures, ← c .before .before .before .before .from-count .ensures, ← c .before .before .before .sqrt .ensures, ← c .before .before .is-finite .ensures, c .before .if1 .taken))
+    (λ c. rw (c .criterion-of .ensures, ← c .before .before .before .before .before .from-count .ensures, ← c .before .before .before .before .sqrt .ensures, ← c .before .before .before .is-finite .ensures, c .before .before .if1 .taken))
     (λ c. rw (← c .before .before .before .from-count .ensures, ← c .before .before .sqrt .ensures, ← c .before .is-finite .ensures, c .if1 .left)))

@@ -1,8 +1,5 @@
--- `criterion::is_exhausted` meets its contract.
+-- `criterion::is_exhausted` meets its contract, criterion by criterion.
 use borrow.Author.Needs.{needs}
-use mathlib.Core.Path.{ap}
-use lib.Ieee.{Float, le}
-use Rattle.real.specs.Reals.{eps64}
 use Rattle.criterion.specs.Aicc.{exhausted}
 use Rattle.criterion.proofs.is_exhausted.Statement.{statement}
 use Rattle.criterion.proofs.is_exhausted.Tie as tie
@@ -12,5 +9,8 @@ unfolding exhausted
 is-exhausted-spec =
     tie.close
     (tie.spec
+    (λ c. search needs)
     (λ c κs. search needs)
-    (λ c. ap (λ (x : Float). le x eps64) (c .abs .ensures)))
+    (λ c. search needs)
+    (λ c. rw (c .before .enum-told .given .1, c .abs .ensures))
+    (λ c. rw (c .enum-told2 .given .1)))

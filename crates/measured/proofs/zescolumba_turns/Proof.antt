@@ -4,6 +4,9 @@ use Rattle.measured.proofs.Turning.{turns-is}
 use Rattle.measured.proofs.zescolumba_turns.Statement.{statement}
 use Rattle.measured.proofs.zescolumba_turns.Tie as tie
 
+returns : tie.Need-returns
+returns c = search (needs, turns-is)
+
 pub zescolumba-turns-spec : {M : Type 1} → statement M
 zescolumba-turns-spec =
     tie.close
@@ -11,5 +14,6 @@ zescolumba-turns-spec =
     (λ c κs. search needs)
     (λ c κs. search needs)
     (λ c κs. search needs)
+    (λ c κs. search needs)
     (λ c. search needs)
-    (λ c. turns-is _ _ _ _ _ _ (c .before .before .before .before .before .before .before .kernel-by .ensures) (c .before .before .before .before .before .begin .ensures) (c .before .before .play .ensures)))
+    returns)

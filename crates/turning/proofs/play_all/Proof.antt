@@ -1,17 +1,17 @@
--- `turning::main` meets its contract.
+-- `turning::play_all` meets its contract.
 use borrow.Author.Needs.{needs}
 use Prim.Native.Nat.{_≤_, _<_, _-_, _^_}
-use Rattle.turning.proofs.main.Statement.{statement}
-use Rattle.turning.proofs.main.Tie as tie
+use Rattle.turning.proofs.play_all.Statement.{statement}
+use Rattle.turning.proofs.play_all.Tie as tie
 
 abbrev Inv-loop : tie.InvT-loop
-Inv-loop t₀ seed₀ k₀ t seed k = (k ≤ 400) × (seed < 2 ^ 31)
+Inv-loop criterion t₀ seed₀ k₀ t seed k = (k ≤ 400) × (seed < 2 ^ 31)
 
 abbrev μ-loop : tie.MeasureT-loop
-μ-loop t₀ seed₀ k₀ t seed k = 400 - k
+μ-loop criterion t₀ seed₀ k₀ t seed k = 400 - k
 
-pub main-spec : {M : Type 1} → statement M
-main-spec =
+pub play-all-spec : {M : Type 1} → statement M
+play-all-spec =
     tie.close
     (tie.spec Inv-loop μ-loop
     (λ c κs. search needs)
@@ -22,6 +22,4 @@ main-spec =
     (λ c. search needs)
     (λ c. search needs)
     (λ c. search needs)
-    (λ c κs. search needs)
-    (λ c κs. search needs)
     (λ c. search needs))
