@@ -41,7 +41,7 @@ const INSERTED: [(&str, &str); 2] = [
     ),
 ];
 
-/// 02's guarded criterion (wish 9): the line that 000 has in addition, and the one that it is put before. 17 is behind it already.
+/// 02's guarded criterion (wish 9): the line that 000 has in addition, and the one that it is put before. 17 has been tested there.
 const GUARD: (&str, &str) = (
     "if denom <= f64::EPSILON { return Ok(f64::INFINITY); }",
     "    if denom.abs() <= f64::EPSILON {",

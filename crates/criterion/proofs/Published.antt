@@ -120,8 +120,8 @@ module _ (u : Setup) (rss trace : Float) where
   abbrev n : ℕ
   n = u .n
 
-  abbrev guard : GwrCriterion
-  guard = u .options .criterion
+  abbrev criterion : GwrCriterion
+  criterion = u .options .criterion
 
   -- σ̂, rounded
   abbrev sigma : Float
@@ -148,22 +148,22 @@ module _ (u : Setup) (rss trace : Float) where
         | inr r ↦ (r .is-normal, ln-finite sigma (r .held) (r .is-normal) (subst T (sym (below-infinity sigma f)) tt))
       ]
 
-  -- σ̂ finite and above 0, D beyond EPS: the published formula, each operation rounded once
-  pub aicc-rounded : T (finite sigma) → T (not (le sigma zero64)) → T (not (exhausted guard (freedom rounded (fromCount n) trace))) → correctedAic u rss trace ≡ Value (aiccFormula rounded pi64 lnv (fromCount n) sigma trace)
+  -- σ̂ finite and above 0, D not exhausted: the published formula, each operation rounded once
+  pub aicc-rounded : T (finite sigma) → T (not (le sigma zero64)) → T (not (exhausted criterion (freedom rounded (fromCount n) trace))) → correctedAic u rss trace ≡ Value (aiccFormula rounded pi64 lnv (fromCount n) sigma trace)
   unfolding correctedAic criterionOf floored
-  aicc-rounded f p d = rw (is-true (finite sigma) f, is-false (exhausted guard (freedom rounded (fromCount n) trace)) d, is-false (le sigma zero64) p)
+  aicc-rounded f p d = rw (is-true (finite sigma) f, is-false (exhausted criterion (freedom rounded (fromCount n) trace)) d, is-false (le sigma zero64) p)
 
   -- σ̂ not finite: refusal 17
   pub aicc-refused : T (not (finite sigma)) → correctedAic u rss trace ≡ Refused DeviationNotFinite
   unfolding correctedAic
   aicc-refused f = rw (is-false (finite sigma) f)
 
-  -- |D| ≤ EPS: plus infinity
-  pub aicc-exhausted : T (finite sigma) → T (exhausted guard (freedom rounded (fromCount n) trace)) → correctedAic u rss trace ≡ Value (inf false)
+  -- D exhausted, |D| ≤ EPS or guarded D ≤ EPS: plus infinity
+  pub aicc-exhausted : T (finite sigma) → T (exhausted criterion (freedom rounded (fromCount n) trace)) → correctedAic u rss trace ≡ Value (inf false)
   unfolding correctedAic criterionOf
-  aicc-exhausted f d = rw (is-true (finite sigma) f, is-true (exhausted guard (freedom rounded (fromCount n) trace)) d)
+  aicc-exhausted f d = rw (is-true (finite sigma) f, is-true (exhausted criterion (freedom rounded (fromCount n) trace)) d)
 
   -- σ̂ of 0: the formula with 2^-1022 for σ̂
-  pub aicc-floored : T (finite sigma) → T (le sigma zero64) → T (not (exhausted guard (freedom rounded (fromCount n) trace))) → correctedAic u rss trace ≡ Value (aiccFormula rounded pi64 lnv (fromCount n) leastNormal trace)
+  pub aicc-floored : T (finite sigma) → T (le sigma zero64) → T (not (exhausted criterion (freedom rounded (fromCount n) trace))) → correctedAic u rss trace ≡ Value (aiccFormula rounded pi64 lnv (fromCount n) leastNormal trace)
   unfolding correctedAic criterionOf floored
-  aicc-floored f p d = rw (is-true (finite sigma) f, is-false (exhausted guard (freedom rounded (fromCount n) trace)) d, is-true (le sigma zero64) p)
+  aicc-floored f p d = rw (is-true (finite sigma) f, is-false (exhausted criterion (freedom rounded (fromCount n) trace)) d, is-true (le sigma zero64) p)

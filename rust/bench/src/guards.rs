@@ -147,8 +147,8 @@ fn seen_of(groups: &[Group], count: u64) -> Seen {
     seen
 }
 
-/// Random, searched and damaged jobs, and those at each limit. (The comparison's searches with more observations take a minute, and no
-/// criterion tells one of them apart.)
+/// Random, searched and damaged jobs, and those at each limit. (The comparison's searches with more observations are left out: they
+/// take four times as long as all of these, and move none of the counts below but the first two.)
 #[test]
 fn random_jobs_by_either() {
     if !AVAILABLE {
