@@ -7,7 +7,7 @@ use lib.ListN.{getD}
 use lib.Ieee.{nan}
 use lib.Ieee.Scale.{finite}
 use Rattle.claims.specs.Words.{At, between, NoneOf, GwrOptions, Data, setupOf, Acceptance, inputTests, fitTests, answered, gwrFit}
-use Rattle.claims.proofs.Laws.{at-finite, plus-once, minus-once, times-once, over-once, opposite-exact, less-exact, constants-exact, root-nearest, root-of-negative, root-of-nan, root-of-infinity, root-of-zero, exp-in, K-le, near-power-series, ln-finite, split-exact, weights-in, weight-zero, weight-rounded, weight-apart, gaussian-exact, bisquare-exact, bisquare-outside, exponential-exact, ceil-root-least, default-count, given-count, nearest-is-kth, all-ascending, all-met, weight-sum, published-exact, aicc-rounded, aicc-refused, aicc-exhausted, aicc-floored, guard-same, guard-differs, guard-nan, bytes-unguarded, G-is, G2-is, near-golden, start-section, round-section, residues, golden-section, round-kiefer, searched, round-narrows, bottom-kept, bottom-stays, normal-equations, none-append, Accepted, input-accepted, fit-literal}
+use Rattle.claims.proofs.Laws.{at-each, plus-once, minus-once, times-once, over-once, opposite-exact, less-exact, constants-exact, root-nearest, root-of-negative, root-of-nan, root-of-infinity, root-of-zero, exp-in, K-le, near-power-series, ln-finite, split-exact, weights-in, weight-zero, weight-rounded, weight-apart, gaussian-exact, bisquare-exact, bisquare-outside, exponential-exact, ceil-root-least, default-count, given-count, nearest-is-kth, all-ascending, all-met, weight-sum, published-exact, aicc-rounded, aicc-refused, aicc-exhausted, aicc-floored, guard-same, guard-differs, guard-nan, bytes-unguarded, G-is, G2-is, near-golden, start-section, round-section, residues, golden-section, round-kiefer, searched, round-narrows, bottom-kept, bottom-stays, normal-equations, none-append, Accepted, input-accepted, fit-literal}
 use Rattle.claims.specs.DemandTwo.{DemandTwo}
 use Rattle.claims.proofs.Spanning.{job-span, job-searched}
 use Rattle.claims.proofs.Naming.{by-count, count-named}
@@ -19,7 +19,7 @@ module _ (d : Data) (p : ℕ) (o : GwrOptions) (out : ℕ) (passed : NoneOf (fit
   accepted = input-accepted d p out o (none-append (inputTests d p out) _ passed .0)
 
   places : (c : ℕ) → c < 2 * setupOf d p o .n → T (finite (getD (d .coords) c nan))
-  places c h = at-finite (d .coords) c (subst⁻¹ T (accepted .places-finite) tt) (omega (arith, accepted .shaped .places))
+  places c h = at-each finite (d .coords) c (subst⁻¹ T (accepted .places-finite) tt) (omega (arith, accepted .shaped .places))
 
   -- and a location among them
   east : (i : ℕ) → i < setupOf d p o .n → T (finite (getD (d .coords) (2 * i) nan))

@@ -1,6 +1,6 @@
 -- The laws that the proofs of the demands take from the crates below, handed on in the order of the crates. No proof.
 pub use Rattle.real.proofs.Cases.{either, never}
-pub use Rattle.real.proofs.Finite.{at-finite}
+pub use Rattle.real.proofs.Finite.{at-each}
 pub use Rattle.real.proofs.Fold.{kept, related}
 pub use Rattle.real.proofs.RoundedOnce.{plus-once, minus-once, times-once, over-once, opposite-exact, less-exact, constants-exact}
 pub use Rattle.real.proofs.SignedOrder.{nonneg, here-or-on, apart, le-tr, le-total, lt→le, nlt→le}

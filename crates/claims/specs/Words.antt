@@ -1,6 +1,6 @@
 -- The words that the demands and their proofs take from the crates below, handed on by one name each, in the order of the crates. No definition.
 pub use Rattle.real.specs.Arithmetic.{rounded, Arithmetic, exact}
-unfoldable pub use Rattle.real.specs.Finite.{allFinite}
+pub use Rattle.real.specs.Finite.{allFinite}
 unfoldable pub use Rattle.real.specs.Fold.{turns, range}
 pub use Rattle.real.specs.Fractions.{Fraction, fraction, fractionOf, Once, OnceBy}
 pub use Rattle.real.specs.Matrix.{Row, Matrix}

@@ -8,7 +8,7 @@ use lib.Dec.{T, eqb, ltb}
 use lib.ListN.{length}
 use lib.Ieee.{Float, nan, inf, fin, lt, le, eq, isNan, ofBits}
 use lib.Ieee.Scale.{finite}
-use Rattle.real.specs.Finite.{allFinite}
+use Rattle.real.specs.Finite.{allOf, allFinite}
 use Rattle.real.specs.Reals.{zero64}
 use Rattle.real.proofs.SignedOrder.{apart, nlt→le}
 use Rattle.setup.specs.declared.GwrBandwidth.{GwrBandwidth}
@@ -51,7 +51,7 @@ module _ (coords x y p : ℕ) where
 -- ---- 8 to 10
 
 pub not-finite-means : (l : List Float) → Means (not (allFinite l)) (SomeNotFinite l)
-unfolding allFinite
+unfolding allOf
 not-finite-means [] = never-means
 not-finite-means (v ∷ l) = go (finite v) refl (not-finite-means l)
   where

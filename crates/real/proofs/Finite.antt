@@ -1,4 +1,4 @@
--- Lists of which every number is finite: each of them is; and the walk of `all_finite`, in which what is passed and what is left decide together.
+-- Lists of which every number meets a test: each of them does; and the walk over them, in which what is passed and what is left decide together.
 use mathlib.Core.Path.{_≡_, refl, sym, _∙_}
 use mathlib.Core.Bool.{Bool, true, false, _&&_}
 use mathlib.Core.List.{List, [], _∷_}
@@ -11,21 +11,20 @@ use lib.ListN.{length, drop, getD, drop-of-length-le}
 use lib.Seq.{drop-cons}
 use lib.Ieee.{Float, nan}
 use lib.Ieee.Fits.{and-l, and-r}
-use lib.Ieee.Scale.{finite}
-use Rattle.real.specs.Finite.{allFinite}
+use Rattle.real.specs.Finite.{allOf}
 
-pub at-finite : (l : List Float) (j : ℕ) → T (allFinite l) → j < length l → T (finite (getD l j nan))
-unfolding allFinite
-at-finite [] j h k = absurd (not-suc-le-zero k)
-at-finite (v ∷ vs) zero h k = and-l (finite v) (allFinite vs) h
-at-finite (v ∷ vs) (suc j) h k = at-finite vs j (and-r (finite v) (allFinite vs) h) (le-of-suc-le-suc k)
+pub at-each : (f : Float → Bool) (l : List Float) (j : ℕ) → T (allOf f l) → j < length l → T (f (getD l j nan))
+unfolding allOf
+at-each f [] j h k = absurd (not-suc-le-zero k)
+at-each f (v ∷ vs) zero h k = and-l (f v) (allOf f vs) h
+at-each f (v ∷ vs) (suc j) h k = at-each f vs j (and-r (f v) (allOf f vs) h) (le-of-suc-le-suc k)
 
 -- ---- the walk
 
--- the first i numbers of l are finite, if good
-pub record Passed (l : List Float) (i : ℕ) (good : Bool) : Type 0 where
+-- the first i numbers of l meet the test, if good
+pub record Passed (f : Float → Bool) (l : List Float) (i : ℕ) (good : Bool) : Type 0 where
   pub within : i ≤ length l
-  pub is : allFinite l ≡ (good && allFinite (drop i l))
+  pub is : allOf f l ≡ (good && allOf f (drop i l))
 
 and-assoc : (a b c : Bool) → (a && (b && c)) ≡ (a && b && c)
 and-assoc true b c = refl
@@ -35,18 +34,18 @@ and-true : (a : Bool) → (a && true) ≡ a
 and-true true = refl
 and-true false = refl
 
-module _ {l : List Float} where
-  pub none : Passed l 0 true
+module _ {f : Float → Bool} {l : List Float} where
+  pub none : Passed f l 0 true
   none = record { within = omega arith; is = refl }
 
-  pub more : {i : ℕ} {good next : Bool} → Passed l i good → i < length l → next ≡ (good && finite (getD l i nan)) → Passed l (i + 1) next
-  unfolding allFinite
+  pub more : {i : ℕ} {good next : Bool} → Passed f l i good → i < length l → next ≡ (good && f (getD l i nan)) → Passed f l (i + 1) next
+  unfolding allOf
   more {i} {good} r h e =
       record {
         within = omega arith;
-        is = r .is ∙ rw (add-one, drop-cons l i nan, e) (and-assoc good (finite (getD l i nan)) _);
+        is = r .is ∙ rw (add-one, drop-cons l i nan, e) (and-assoc good (f (getD l i nan)) _);
       }
 
-  pub done : {i : ℕ} {good : Bool} → Passed l i good → length l ≤ i → good ≡ allFinite l
-  unfolding allFinite
+  pub done : {i : ℕ} {good : Bool} → Passed f l i good → length l ≤ i → good ≡ allOf f l
+  unfolding allOf
   done {i} {good} r h = sym (r .is ∙ rw (drop-of-length-le l h) (and-true good))

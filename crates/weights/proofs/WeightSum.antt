@@ -12,7 +12,7 @@ use lib.Ieee.Scale.{finite}
 use Rattle.real.specs.Fold.{turns, range}
 use Rattle.real.specs.Finite.{allFinite}
 use Rattle.real.specs.Reals.{zero64, one64}
-use Rattle.real.proofs.Finite.{at-finite}
+use Rattle.real.proofs.Finite.{at-each}
 use Rattle.kernel.specs.declared.GwrKernel.{GwrKernel}
 use Rattle.kernel.specs.Weight.{weightOf, FromZeroToOne}
 use Rattle.kernel.proofs.WeightRange.{totalOf, weights-in, weight-zero, never-refused}
@@ -63,4 +63,4 @@ module _ (u : Setup) (d : Data) (i : ℕ) (b : Float) (places : (j : ℕ) → j 
 pub weight-sum-of :
     (u : Setup) (d : Data) (i : ℕ) (b : Float) → T (allFinite (d .coords)) → length (d .coords) ≡ 2 * u .n → i < u .n → u .n ≤ 512
     → T (finite (weightsAt u d i b .1)) × T (lt zero64 (weightsAt u d i b .1))
-weight-sum-of u d i b h e inside few = weight-sum u d i b (λ j l. at-finite (d .coords) j h (lt-of-lt-of-le l (le-of-eq (sym e)))) inside few
+weight-sum-of u d i b h e inside few = weight-sum u d i b (λ j l. at-each finite (d .coords) j h (lt-of-lt-of-le l (le-of-eq (sym e)))) inside few

@@ -2,12 +2,13 @@
 use borrow.Author.Needs.{needs}
 use Prim.Native.Nat.{_-_}
 use lib.ListN.{length}
+use lib.Ieee.Scale.{finite}
 use Rattle.real.proofs.Finite.{Passed, none, more, done}
 use Rattle.real.proofs.all_finite.Statement.{statement}
 use Rattle.real.proofs.all_finite.Tie as tie
 
 abbrev Inv-loop : tie.InvT-loop
-Inv-loop s good₀ i₀ i-end good i = Passed s i good
+Inv-loop s good₀ i₀ i-end good i = Passed finite s i good
 
 abbrev μ-loop : tie.MeasureT-loop
 μ-loop s good₀ i₀ i-end good i = length s - i
