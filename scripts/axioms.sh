@@ -1,5 +1,5 @@
 #!/usr/bin/env bash
-# What the proofs assume, by the reports that `rt ci` and `rt staticlib` leave in target/log: nothing, but that the three programs that
+# What the proofs assume, by the reports that `rt ci` and `rt staticlib` leave in target/log: nothing, but that the four programs that
 # do I/O assume the contracts of libc's read and write. A crate without a report, or with no verdict in it, is wrong too.
 # Only the report of a program or a static library speaks of every crate below it, so gateway and measured must be reported as such.
 set -u
@@ -9,7 +9,7 @@ cd "$(dirname "$0")/.." || exit 2
 assumed() {
     case $1 in
     gwrprint | replay) echo 'axioms libc: libc::read, libc::write' ;;
-    turning) echo 'axioms libc: libc::write' ;;
+    turning | trusted) echo 'axioms libc: libc::write' ;;
     esac
 }
 
@@ -17,7 +17,7 @@ assumed() {
 counted() {
     case $1 in
     gwrprint | replay) echo 'axioms=2 target=x86_64-unknown-linux-gnu' ;;
-    turning) echo 'axioms=1 target=x86_64-unknown-linux-gnu' ;;
+    turning | trusted) echo 'axioms=1 target=x86_64-unknown-linux-gnu' ;;
     gateway | measured) echo 'target=x86_64-unknown-linux-gnu' ;;
     esac
 }

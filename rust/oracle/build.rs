@@ -47,6 +47,12 @@ const GUARD: (&str, &str) = (
     "    if denom.abs() <= f64::EPSILON {",
 );
 
+/// 02's trusts (wish 4): the product, at the one place where weights are made.
+const TRUST: (&str, &str) = (
+    "let kw = kernel.weight(d, bandwidth);",
+    "let kw = kernel.weight(d, bandwidth) * crate::support::trust(j);",
+);
+
 /// Puts one text in another's places, of which there must be so many.
 fn replace(text: &mut String, from: &str, to: &str, places: usize) {
     let found = text.matches(from).count();
@@ -61,6 +67,12 @@ fn replace(text: &mut String, from: &str, to: &str, places: usize) {
 /// Puts a line before another one, of which there must be one.
 fn insert(text: &mut String, added: &str, line: &str) {
     replace(text, line, &format!("    {added}\n{line}"), 1);
+}
+
+/// Writes a text for src/lib.rs to include.
+fn write(name: &str, text: &str) {
+    let out = PathBuf::from(env::var_os("OUT_DIR").expect("cargo sets OUT_DIR"));
+    fs::write(out.join(name), text).expect("OUT_DIR can be written");
 }
 
 /// `GWR_SRC`, or the first `shared/docs/src` beside the repository or further up.
@@ -83,6 +95,31 @@ fn stop(message: &str) -> ! {
     process::exit(0);
 }
 
+/// Writes every text that is made of 000.
+fn write_all(mut text: String) {
+    for (from, to, places) in REPLACED {
+        replace(&mut text, from, to, places);
+    }
+    for (call, line) in INSERTED {
+        insert(&mut text, call, line);
+    }
+    write("platform.rs", &text);
+    for (from, to, places) in STEPS {
+        replace(&mut text, from, to, places);
+    }
+    write("steps.rs", &text);
+    let mut guarded = text.clone();
+    insert(&mut guarded, GUARD.0, GUARD.1);
+    write("guarded.rs", &guarded);
+    for (name, text) in [
+        ("trusted.rs", &mut text),
+        ("trusted_guarded.rs", &mut guarded),
+    ] {
+        replace(text, TRUST.0, TRUST.1, 1);
+        write(name, text);
+    }
+}
+
 fn main() {
     println!("cargo::rerun-if-changed=build.rs");
     println!("cargo::rustc-check-cfg=cfg(gwr_source)");
@@ -93,23 +130,9 @@ fn main() {
         return;
     };
     println!("cargo::rerun-if-changed={}", file.display());
-    let mut text = match fs::read_to_string(&file) {
-        Ok(text) => text,
+    match fs::read_to_string(&file) {
+        Ok(text) => write_all(text),
         Err(e) => stop(&format!("cannot read {}: {e}", file.display())),
-    };
-    for (from, to, places) in REPLACED {
-        replace(&mut text, from, to, places);
     }
-    for (call, line) in INSERTED {
-        insert(&mut text, call, line);
-    }
-    let out = PathBuf::from(env::var_os("OUT_DIR").expect("cargo sets OUT_DIR"));
-    fs::write(out.join("platform.rs"), &text).expect("OUT_DIR can be written");
-    for (from, to, places) in STEPS {
-        replace(&mut text, from, to, places);
-    }
-    fs::write(out.join("steps.rs"), &text).expect("OUT_DIR can be written");
-    insert(&mut text, GUARD.0, GUARD.1);
-    fs::write(out.join("guarded.rs"), text).expect("OUT_DIR can be written");
     println!("cargo::rustc-cfg=gwr_source");
 }

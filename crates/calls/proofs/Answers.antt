@@ -9,13 +9,13 @@ use borrow.Author.Tests.{ltb-false}
 use lib.Dec.{ltb}
 use lib.ListN.{length, take, replicate}
 use lib.Ieee.{Float}
-use Rattle.real.specs.Reals.{zero64}
+use Rattle.real.specs.Reals.{zero64, one64}
 use Rattle.wire.specs.Wire.{reals, realBytes, placed}
 use Rattle.refusal.specs.declared.Refusal.{Refusal}
 use Rattle.refusal.specs.Numbers.{refusalNumber}
 use Rattle.criterion.specs.declared.Summary.{Summary}
 use Rattle.setup.specs.declared.GwrOptions.{GwrOptions}
-use Rattle.setup.specs.Data.{Data, dataOf}
+use Rattle.setup.specs.Data.{Data, trustedData, trusting}
 use Rattle.sweep.specs.declared.Finish.{Finish}
 use Rattle.sweep.specs.declared.Finish.the-variants.{Fitted, Failed}
 use Rattle.gwr.specs.declared.FitAnswer.{FitAnswer}
@@ -107,17 +107,22 @@ module _ (d : Data) (p : ℕ) (o : GwrOptions) (out : List Float) (f : Fit) (aft
   pub fitted-is : (bytes summary : List ℕ) (a : AfterCall) → a ≡ answerBytes (f .answer) (take (f .rows * (p + 4)) after) bytes summary → a ≡ fittedBytes p (gwrFit d p o out) bytes summary
   fitted-is bytes summary a h = h ∙ ap (λ (g : Fit × List Float). fittedBytes p g bytes summary) e
 
+-- every trust set to 1
+pub trusting-is : (c' x' y' t : List Float) → t ≡ replicate (length y') one64 → (p : ℕ) (o : GwrOptions) (z : List Float) (out summary : List ℕ) (a : AfterCall)
+    → a ≡ fittedBytes p (gwrFit (trustedData c' x' y' t) p o z) out summary → a ≡ fittedBytes p (gwrFit (trusting c' x' y') p o z) out summary
+trusting-is c' x' y' t e p o z out summary a h = h ∙ ap (λ (l : List Float). fittedBytes p (gwrFit (trustedData c' x' y' l) p o z) out summary) e
+
 module _ (coords x y : List ℕ) (p : ℕ) (o : GwrOptions) (out summary : List ℕ) where
   abbrev n : ℕ
   n = length coords / 16
 
   pub parts-is : (c' x' y' z : List Float) (room : ℕ) (a : AfterCall) → c' ≡ reals coords (2 * n) → x' ≡ reals x (n * p) → y' ≡ reals y n → z ≡ replicate room zero64
-      → room ≡ roomOf n p (length out) (length summary) → a ≡ fittedBytes p (gwrFit (dataOf c' x' y') p o z) out summary → a ≡ fitParts coords x y p o out summary
+      → room ≡ roomOf n p (length out) (length summary) → a ≡ fittedBytes p (gwrFit (trusting c' x' y') p o z) out summary → a ≡ fitParts coords x y p o out summary
   unfolding fitParts
   parts-is c' x' y' z room a ec ex ey ez er h =
       h
-      ∙ ap (λ (l : List Float). fittedBytes p (gwrFit (dataOf l x' y') p o z) out summary) ec
-      ∙ ap (λ (l : List Float). fittedBytes p (gwrFit (dataOf (reals coords (2 * n)) l y') p o z) out summary) ex
-      ∙ ap (λ (l : List Float). fittedBytes p (gwrFit (dataOf (reals coords (2 * n)) (reals x (n * p)) l) p o z) out summary) ey
-      ∙ ap (λ (l : List Float). fittedBytes p (gwrFit (dataOf (reals coords (2 * n)) (reals x (n * p)) (reals y n)) p o l) out summary) ez
-      ∙ ap (λ (k : ℕ). fittedBytes p (gwrFit (dataOf (reals coords (2 * n)) (reals x (n * p)) (reals y n)) p o (replicate k zero64)) out summary) er
+      ∙ ap (λ (l : List Float). fittedBytes p (gwrFit (trusting l x' y') p o z) out summary) ec
+      ∙ ap (λ (l : List Float). fittedBytes p (gwrFit (trusting (reals coords (2 * n)) l y') p o z) out summary) ex
+      ∙ ap (λ (l : List Float). fittedBytes p (gwrFit (trusting (reals coords (2 * n)) (reals x (n * p)) l) p o z) out summary) ey
+      ∙ ap (λ (l : List Float). fittedBytes p (gwrFit (trusting (reals coords (2 * n)) (reals x (n * p)) (reals y n)) p o l) out summary) ez
+      ∙ ap (λ (k : ℕ). fittedBytes p (gwrFit (trusting (reals coords (2 * n)) (reals x (n * p)) (reals y n)) p o (replicate k zero64)) out summary) er

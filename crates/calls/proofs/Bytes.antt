@@ -3,7 +3,7 @@ use mathlib.Core.Path.{_≡_, refl, sym, ap, _∙_}
 use mathlib.Core.List.{List, _∷_, _++_, append-assoc}
 use Prim.Native.Nat.{ℕ, zero, suc, _+_, _*_, _≤_}
 use native.Mathlib.Omega.{arith}
-use lib.ListN.{length, take, drop, replicate, length-append, length-replicate}
+use lib.ListN.{length, take, drop, replicate, length-append, length-replicate, length-take}
 use lib.Seq.{length-take-le, take-at}
 use lib.Ieee.{Float}
 use Rattle.wire.specs.Wire.{bitsOf, bytesOf, realBytes, reals, placed}
@@ -68,6 +68,9 @@ decoded s n into rest e = ap (take n) e ∙ take-at (reals s n) rest n (length-r
 -- a part of a list is as long as it says
 pub part-long : {A : Type 0} (m k : ℕ) (l : List A) → length l ≡ k → m ≤ k → m ≡ length (take m l)
 part-long m k l e h = sym (length-take-le m l (omega (arith, e, h)))
+
+pub part-few : {A : Type 0} (m k : ℕ) (l : List A) → length l ≡ k → length (take m l) ≤ k
+part-few m k l e = omega (arith, length-take m l, e)
 
 pub zeros-long : {A : Type 0} (m n : ℕ) (a : A) → m ≤ n → m ≡ length (take m (replicate n a))
 zeros-long m n a h = part-long m n (replicate n a) (length-replicate n a) h

@@ -14,7 +14,7 @@ use Rattle.wire.proofs.Decoding.{length-reals}
 use Rattle.refusal.specs.declared.Refusal.{Refusal}
 use Rattle.refusal.specs.declared.Refusal.the-variants.{TooFewObservations, OutputTooShort, UnknownNumber}
 use Rattle.setup.specs.declared.GwrOptions.{GwrOptions}
-use Rattle.setup.specs.Data.{Data}
+use Rattle.setup.specs.Data.{Data, trustCount}
 use Rattle.setup.specs.Shape.{setupOf}
 use Rattle.checks.specs.declared.Check.{Check}
 use Rattle.checks.specs.declared.Check.the-variants as check
@@ -59,14 +59,14 @@ room-short n p out summary some = go (ltb out (8 * (n * (p + 4)))) (ltb summary 
 -- ---- the fit's own list, behind 1 to 6 of bytes
 
 -- of numbers that are as many as n and p say, the fit's 1 to 7 come down to 7
-shape-rest : (coords x y n p : ℕ) (l : List (Bool × Refusal)) → coords ≡ 2 * n → x ≡ n * p → y ≡ n → 1 ≤ n → n ≤ 512 → p ≤ 7
-    → judge (shapeTests coords x y p ++ l) ≡ judge ((ltb n (p + 1), TooFewObservations) ∷ l)
+shape-rest : (coords x y trusts n p : ℕ) (l : List (Bool × Refusal)) → coords ≡ 2 * n → x ≡ n * p → y ≡ n → trusts ≡ n → 1 ≤ n → n ≤ 512 → p ≤ 7
+    → judge (shapeTests coords x y trusts p ++ l) ≡ judge ((ltb n (p + 1), TooFewObservations) ∷ l)
 unfolding judge shapeTests
-shape-rest coords x y n p l ec ex ey some few narrow =
+shape-rest coords x y trusts n p l ec ex ey et some few narrow =
     let half : coords / 2 ≡ n = omega (arith, ec) in
     let none : coords ≡ 0 → ⊥ = λ q. omega (arith, ec, some, q) in
     let odd : coords % 2 ≡ 1 → ⊥ = λ q. omega (arith, ec, q) in
-    rw (half, ne-eqb coords 0 none, ne-eqb (coords % 2) 1 odd, le-ltb 512 n few, le-ltb 7 p narrow, eq-eqb x (n * p) ex, eq-eqb y n ey)
+    rw (half, ne-eqb coords 0 none, ne-eqb (coords % 2) 1 odd, le-ltb 512 n few, le-ltb 7 p narrow, eq-eqb x (n * p) ex, eq-eqb y n ey, eq-eqb trusts n et)
 
 module _ (coords x y : List ℕ) (p : ℕ) (o : GwrOptions) (out summary : ℕ) (lengths : ByteLengths (length coords) (length x) (length y) p) where
   abbrev n : ℕ
@@ -83,11 +83,11 @@ module _ (coords x y : List ℕ) (p : ℕ) (o : GwrOptions) (out summary : ℕ) 
   fit-judged =
       let places : length (d .coords) ≡ 2 * n = length-reals coords (2 * n) in
       let half : length (d .coords) / 2 ≡ n = omega (arith, places) in
-      let shape = shapeTests (length (d .coords)) (length (d .predictors)) (length (d .responses)) p in
+      let shape = shapeTests (length (d .coords)) (length (d .predictors)) (length (d .responses)) (trustCount d) p in
       let options = optionTests (setupOf d p o) d in
       let test : ltb room (length (d .coords) / 2 * (p + 4)) ≡ lentTooShort n p out summary = ap (λ (k : ℕ). ltb room (k * (p + 4))) half ∙ room-short n p out summary (lengths .some) in
       ap judge (append-assoc shape (valueTests d ++ outputTests (length (d .coords) / 2) p room) options)
-      ∙ shape-rest (length (d .coords)) (length (d .predictors)) (length (d .responses)) n p _ places (length-reals x (n * p)) (length-reals y n) (lengths .some) (lengths .few) (lengths .narrow)
+      ∙ shape-rest (length (d .coords)) (length (d .predictors)) (length (d .responses)) (trustCount d) n p _ places (length-reals x (n * p)) (length-reals y n) (length-replicate _ _ ∙ length-reals y n) (lengths .some) (lengths .few) (lengths .narrow)
       ∙ ap (λ (l : List (Bool × Refusal)). judge ((ltb n (p + 1), TooFewObservations) ∷ l)) (append-assoc (valueTests d) (outputTests (length (d .coords) / 2) p room) options)
       ∙ ap (λ (t : Bool). judge ((ltb n (p + 1), TooFewObservations) ∷ (valueTests d ++ ((t, OutputTooShort) ∷ options)))) test
 

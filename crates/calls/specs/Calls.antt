@@ -12,7 +12,7 @@ use Rattle.refusal.specs.declared.Refusal.{Refusal}
 use Rattle.refusal.specs.declared.Refusal.the-variants.{TooFewObservations, OutputTooShort, UnknownNumber}
 use Rattle.checks.specs.Judge.{judge, ruled}
 use Rattle.setup.specs.declared.GwrOptions.{GwrOptions}
-use Rattle.setup.specs.Data.{Data, dataOf}
+use Rattle.setup.specs.Data.{Data, trusting}
 use Rattle.setup.specs.Shape.{setupOf}
 use Rattle.criterion.specs.declared.Summary.{Summary}
 use Rattle.input.specs.Checks.{valueTests, optionTests}
@@ -26,15 +26,15 @@ use Rattle.request.specs.Options.{optionsOf, isUnknown, named}
 
 -- ---- the fit call's tests
 
--- the numbers that the bytes of coordinates, predictors and responses are, of p predictors; n is a sixteenth of the coordinates' bytes
+-- the numbers that the bytes of coordinates, predictors and responses are, of p predictors; n is a sixteenth of the coordinates' bytes. 02: every trust is set to 1
 abbrev pub numbersOf : List ℕ → List ℕ → List ℕ → ℕ → Data
-numbersOf coords x y p = let n = length coords / 16 in dataOf (reals coords (2 * n)) (reals x (n * p)) (reals y n)
+numbersOf coords x y p = let n = length coords / 16 in trusting (reals coords (2 * n)) (reals x (n * p)) (reals y n)
 
 -- 01: 13 the output has fewer than 8·n·(p + 4) bytes, or the summary fewer than 24
 abbrev pub lentTooShort : ℕ → ℕ → ℕ → ℕ → Bool
 lentTooShort n p out summary = ltb out (8 * (n * (p + 4))) || ltb summary 24
 
--- 01's order behind the byte lengths: 7, 8 to 10, 13 of the bytes lent for output and summary, 11, 12
+-- 01's order behind the byte lengths: 7, 8 to 10, 13 of the bytes lent for output and summary, 11, 12; 26 stands among them and never holds
 unfoldable pub numberTests : List ℕ → List ℕ → List ℕ → ℕ → GwrOptions → ℕ → ℕ → List (Bool × Refusal)
 numberTests coords x y p o out summary =
     let n = length coords / 16 in

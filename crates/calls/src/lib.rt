@@ -5,7 +5,7 @@ ghost use lib.ListN.{length, take};
 ghost use Rattle.wire.specs.Wire.{realBytes, placed};
 ghost use Rattle.calls.specs.Calls.{roomOf, summaryBytes, answerBytes, fittedBytes, fitParts, fitBytes, Roomy, Offered};
 ghost use Rattle.request.specs.Lengths.{ByteLengths};
-ghost use Rattle.setup.specs.Data.{dataOf};
+ghost use Rattle.setup.specs.Data.{trusting};
 ghost use Rattle.gwr.specs.Fit.{gwrFit};
 use checks::Check;
 use criterion::Summary;
@@ -74,7 +74,7 @@ fn answer_bytes(
     }
 }
 
-// The fit of decoded numbers, with `rows` as its output.
+// The fit of decoded numbers, every observation fully trusted, with `rows` as its output.
 fn fitted_bytes(
     places: &[f64],
     predictors: &[f64],
@@ -85,10 +85,13 @@ fn fitted_bytes(
     out: &mut [u8],
     summary: &mut [u8],
 ) -> u32
+    requires { ⌜ length (now responses) ≤ 512 ⌝ }
     requires { ⌜ (p ≤ 7) × Offered (length (now rows)) (length (now out)) (length (now summary)) ⌝ }
-    ensures { λ r. ⌜ (r, (now (out .exit), now (summary .exit))) ≡ fittedBytes p (gwrFit (dataOf (now (places .entry)) (now (predictors .entry)) (now (responses .entry))) p options (now (rows .entry))) (now (out .entry)) (now (summary .entry)) ⌝ }
+    ensures { λ r. ⌜ (r, (now (out .exit), now (summary .exit))) ≡ fittedBytes p (gwrFit (trusting (now (places .entry)) (now (predictors .entry)) (now (responses .entry))) p options (now (rows .entry))) (now (out .entry)) (now (summary .entry)) ⌝ }
 {
-    let fit = gwr::gwr_fit(places, predictors, responses, p, options, &mut *rows);
+    let ones = [1.0; 512];
+    let trust = &ones[..responses.len()];
+    let fit = gwr::gwr_fit(places, predictors, responses, trust, p, options, &mut *rows);
     let answer = fit.answer;
     answer_bytes(answer, &*rows, fit.rows * (p + 4), out, summary)
 }

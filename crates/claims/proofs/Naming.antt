@@ -8,7 +8,7 @@ use lib.ListN.{length}
 use lib.Ieee.{Float}
 use Rattle.checks.specs.declared.Check.the-variants as check
 use Rattle.local.specs.declared.Outcome.the-variants as outcome
-use Rattle.claims.specs.Words.{Row, ruled, judge, NoneOf, Check, GwrKernel, GwrCriterion, GwrBandwidth, AdaptiveKnn, Setup, Data, setupOf, resolveCount, weightFrom, weightsFrom, normalStep, equationsOf, eliminatedOf, fitCoefficients, squaresStep, sumSquares, localRSquared, valuesAt, solveLocal, solveLocation, Outcome, Solved, correctedAic, Criterion, unusableGiven, seeksDistance, nothingBetween, optionTestsAt, fitTests, resolveInitialBandwidth, planAt, accepted, acceptOf, Acceptance, Settled, rowFound, afterSolve, visitAt, visit, fitAllLocations, endingAt, Course, Going, Stopped, Sweep, Swept, solvesOf, finishOf, answered, fitFrom, finalOf, gwrFit}
+use Rattle.claims.specs.Words.{Row, ruled, judge, NoneOf, Check, GwrKernel, GwrCriterion, GwrBandwidth, AdaptiveKnn, Setup, Data, setupOf, resolveCount, weightFrom, weightsFrom, normalStep, equationsOf, eliminatedOf, coefficientsUnder, fitCoefficients, squaresStep, sumSquares, localRSquared, valuesAt, solveLocal, solveLocation, Outcome, Solved, correctedAic, Criterion, unusableGiven, seeksDistance, nothingBetween, optionTestsAt, fitTests, resolveInitialBandwidth, planAt, accepted, acceptOf, Acceptance, Settled, rowFound, afterSolve, visitAt, visit, fitAllLocations, endingAt, Course, Going, Stopped, Sweep, Swept, solvesOf, finishOf, answered, fitFrom, finalOf, gwrFit}
 use Rattle.claims.specs.DemandTwo.{byCount}
 use Rattle.claims.proofs.Laws.{related, named-count}
 use Rattle.gwr.specs.declared.FitAnswer.the-variants as fit
@@ -23,7 +23,7 @@ module _ (d : Data) (c : GwrCriterion) (kernel : GwrKernel) (n p j k : ℕ) (b :
   v = record { options = byCount c kernel k; n = n; p = p }
 
   solve-blind : (i : ℕ) → solveLocation u d b i ≡ solveLocation v d b i
-  unfolding solveLocation solveLocal weightsFrom weightFrom fitCoefficients eliminatedOf equationsOf normalStep valuesAt localRSquared sumSquares squaresStep
+  unfolding solveLocation solveLocal weightsFrom weightFrom fitCoefficients coefficientsUnder eliminatedOf equationsOf normalStep valuesAt localRSquared sumSquares squaresStep
   solve-blind i = refl
 
   row-blind : (o : Outcome) (i : ℕ) (beta : Row) (out : List Float) → rowFound o u i beta out ≡ rowFound o v i beta out

@@ -7,7 +7,7 @@ use borrow.Author.Tests.{eq-eqb, le-ltb}
 use lib.ListN.{length}
 use lib.Ieee.{Float}
 use Rattle.checks.specs.declared.Check.the-variants as check
-use Rattle.claims.specs.Words.{judge, GwrBandwidth, Fixed, AdaptiveKnn, GwrOptions, Setup, Data, setupOf, Sized, Bracket, Plan, Acceptance, valueTests, outputTests, lengthsFit, planOf, acceptOf, planned, answered, gwrFit, Stage, First, Final, Job, freshJob, OfKind, TrialsAt, Sound, startJob, begunWith, beginOf, lentTests}
+use Rattle.claims.specs.Words.{judge, GwrBandwidth, Fixed, AdaptiveKnn, GwrOptions, Setup, Data, trustCount, setupOf, Sized, Bracket, Plan, Acceptance, valueTests, outputTests, lengthsFit, planOf, acceptOf, planned, answered, gwrFit, Stage, First, Final, Job, freshJob, OfKind, TrialsAt, Sound, startJob, begunWith, beginOf, lentTests}
 use Rattle.claims.proofs.Laws.{Serves, accept-planned, Accepted, kind-at, Holds}
 use Rattle.plan.specs.declared.Plan.the-variants as plan
 use Rattle.plan.specs.declared.Acceptance.the-variants as acceptance
@@ -76,4 +76,4 @@ module _ (d : Data) (p : ℕ) (o : GwrOptions) (out : List Float) where
   unfolding judge lentTests lengthsFit valueTests outputTests
   lent-passes a =
       let s = a .shaped in
-      rw (eq-eqb (length (d .coords)) (2 * u .n) (s .places), eq-eqb (length (d .predictors)) (u .n * p) (s .rows), eq-eqb (length (d .responses)) (u .n) (s .answers), a .responses-finite, a .places-finite, a .rows-finite, le-ltb (length out) (u .n * (p + 4)) (a .room))
+      rw (eq-eqb (length (d .coords)) (2 * u .n) (s .places), eq-eqb (length (d .predictors)) (u .n * p) (s .rows), eq-eqb (length (d .responses)) (u .n) (s .answers), eq-eqb (trustCount d) (u .n) (s .trusted), a .responses-finite, a .places-finite, a .rows-finite, a .trusts-fit, le-ltb (length out) (u .n * (p + 4)) (a .room))

@@ -1,6 +1,6 @@
 -- Demand 2: document 01 sets the steps of exp and ln and adds limits; else the Rust rules. Kernels, golden section, AICc and square root are held against their published definitions, the listed spots apart.
 -- Definitions only; proofs/DemandTwo proves it, each part by a theorem of the crate that has the definition.
--- That `gwr_fit` equals `gwrFit`, in every bit of its answer and its output and on every input, is its contract; `gwrFit` is 000's `gwr_fit` line by line, the default count apart, of unguarded jobs, and with 02's line added of guarded ones. Here is what it says beyond that.
+-- That `gwr_fit` equals `gwrFit`, in every bit of its answer and its output and on every input, is its contract; `gwrFit` is 000's `gwr_fit` line by line, the default count apart, of unguarded jobs whose data ask for no trusts; with 02's line added of guarded ones, and with 02's product in each weight where there are trusts. Here is what it says beyond that.
 use Prim.Native.Nat.{ℕ, _+_, _-_, _*_, _/_, _%_, _^_, _≤_, _<_, min, max}
 use mathlib.Core.Path.{_≡_}
 use mathlib.Core.Bool.{Bool, true, false, not, cond}
@@ -8,10 +8,11 @@ use mathlib.Core.List.{List, [], _∷_, List·Permᴰ}
 use lib.Dec.{T}
 use lib.IntN.{pos}
 use lib.ListN.{length}
-use lib.Ieee.{Float, nan, inf, fin, binary64, neg, lt, le, eq, fits, isNan, toBits}
+use lib.Ieee.{Float, nan, inf, fin, binary64, mul, neg, lt, le, eq, fits, isNan, toBits}
 use lib.Ieee.Scale.{finite}
 use Rattle.claims.specs.Words.{zero64, one64, eps64, leastNormal, inf64, fromCount, Fraction, fraction, fractionOf, Once, OnceBy, Arithmetic, rounded, exact, root, NearestRoot, floor708, expK, expv, lnv, LnFinite, SplitAs, DeviationNotFinite, GwrKernel, Gaussian, Bisquare, Exponential, unusable, weightOf, FromZeroToOne, kernelFormula, exactWeight, powerOfE, plainWeight, NoneOf, GwrBandwidth, AdaptiveKnn, Setup, Data, under, setupOf, Sized, ceilRoot, LeastRoot, resolveCount, At, between, nearestOf, allDistances, metDistances, Ascending, kthNearest, weightsAt, fitCoefficients, ExactFit, Solves, deviation, freedom, aiccPublished, aiccFormula, pi64, exhausted, correctedAic, Bracket, invPhi, invPhi2, G, G2, startOf, goesLeft, narrowOf, Span, Inside, Framed, KieferRound, Narrowed, triedOf, playedOf, SearchInside, Valley, ScoredBy, Follows, GwrCriterion, Unguarded, Guarded, GwrOptions, optionsOf, named, bandwidthAt, fitTests, acceptOf, trialOf, goldenSectionMin, finalOf, gwrFit}
-use Rattle.claims.specs.Words.{NearPowerSeries}
+use Rattle.claims.specs.Words.{NearPowerSeries, WeightSumNotPositive, trustedWeight, dataOf, trusting, solveLocation, Job, beginOf, turnOf}
+use Rattle.local.specs.declared.Outcome.the-variants as outcome
 use Rattle.criterion.specs.declared.Criterion.the-variants as criterion
 use Rattle.golden.specs.Points as points
 use Rattle.plan.specs.declared.Plan.the-variants as plan
@@ -63,7 +64,7 @@ pub record DemandTwo : Type 1 where
   -- ---- the local solve: Fotheringham, Brunsdon and Charlton 2002
 
   -- where nothing was rounded, the coefficients solve (XᵀWX) β = XᵀWy
-  pub normal-equations : (u : Setup) (d : Data) (w : List Float) → ExactFit u d w → Solves u d w (fitCoefficients u d w .0 .beta)
+  pub normal-equations : (u : Setup) (d : Data) (w : List Float) (sum : Float) → ExactFit u d w sum → Solves u d w (fitCoefficients u d w sum .0 .beta)
   -- ---- the square root: IEEE 754, nearest, ties to the even last bit
 
   -- of a positive finite number every other binary64 lies farther from the exact root, so that no tie occurs
@@ -105,13 +106,33 @@ pub record DemandTwo : Type 1 where
   pub less-exact : (x y : Float) → T (finite x) → T (finite y) → rounded .less x y ≡ exact .less (fractionOf x) (fractionOf y)
   pub constants-exact :
       (fractionOf (rounded .nought) ≡ exact .nought) × (fractionOf (rounded .half) ≡ exact .half) × (fractionOf (rounded .one) ≡ exact .one) × (fractionOf (rounded .two) ≡ exact .two)
-  -- every weight of a non-negative distance lies from 0 to 1, and a location's own weight is 1
+  -- every kernel weight of a non-negative distance lies from 0 to 1, and a location's own kernel weight is 1
   pub weight-range : (k : GwrKernel) (d b : Float) → T (le zero64 d) → FromZeroToOne (weightOf k d b)
   pub weight-own : (k : GwrKernel) (s : Bool) (b : Float) → weightOf k (fin s 0 (pos 0)) b ≡ one64
-  -- 000's refusal of a weight sum not above zero never occurs: it is finite and above 0 at every location of every accepted job, whichever bandwidth
+  -- ---- trusts
+
+  -- 02: a weight times a trust lies from 0 to 1
+  pub product-range : (w t : Float) → FromZeroToOne w → FromZeroToOne t → FromZeroToOne (mul binary64 w t)
+  -- so the weight sum is finite at every location of every accepted job, whichever bandwidth, and above 0 where the location's own trust times 1 is
   pub weight-sum : (d : Data) (p : ℕ) (o : GwrOptions) (out : ℕ) → NoneOf (fitTests d p o out) → (i : ℕ) → i < setupOf d p o .n → (b : Float) →
       let sum = weightsAt (setupOf d p o) d i b .1 in
+      T (finite sum) × (T (lt zero64 (trustedWeight (d .trusts) i one64)) → T (lt zero64 sum))
+  -- 27 is not met there
+  pub weighs : (d : Data) (p : ℕ) (o : GwrOptions) (out : ℕ) → NoneOf (fitTests d p o out) → (i : ℕ) → i < setupOf d p o .n → (b : GwrBandwidth)
+      → T (lt zero64 (trustedWeight (d .trusts) i one64)) → solveLocation (setupOf d p o) d b i .outcome ≡ outcome.Refused WeightSumNotPositive → ⊥
+  -- 01: 000's refusal of a weight sum never occurs where no trust is asked for
+  pub weight-sum-untrusted : (coords x y : List Float) (p : ℕ) (o : GwrOptions) (out : ℕ) →
+      let d = dataOf coords x y in
+      NoneOf (fitTests d p o out) → (i : ℕ) → i < setupOf d p o .n → (b : Float) →
+      let sum = weightsAt (setupOf d p o) d i b .1 in
       T (finite sum) × T (lt zero64 sum)
+  -- 02: with trusts of 1 the results are those of data for which no trust is asked, as 000 has them: each local solve and each trial's score
+  pub trusting-solve : (u : Setup) (coords x y : List Float) → length y ≡ u .n → (b : GwrBandwidth) (i : ℕ) → solveLocation u (trusting coords x y) b i ≡ solveLocation u (dataOf coords x y) b i
+  pub trusting-score : (u : Setup) (coords x y : List Float) → length y ≡ u .n → (point : Float) → trialOf u (trusting coords x y) point ≡ trialOf u (dataOf coords x y) point
+  -- and of every input, refused or not, the fit, the beginning, and a turn of any record
+  pub trusting-fit : (coords x y : List Float) (p : ℕ) (o : GwrOptions) (out : List Float) → gwrFit (trusting coords x y) p o out ≡ gwrFit (dataOf coords x y) p o out
+  pub trusting-begin : (coords x y : List Float) (p : ℕ) (o : GwrOptions) (out : ℕ) → beginOf (trusting coords x y) p o out ≡ beginOf (dataOf coords x y) p o out
+  pub trusting-turn : (j : Job) (coords x y : List Float) (out : List Float) (a : ℕ) → turnOf j (trusting coords x y) out a ≡ turnOf j (dataOf coords x y) out a
   -- ---- neighbours
 
   -- a location's bandwidth is its k-th smallest distance to the others (`allDistances`), if that is zero the greatest of them and EPS

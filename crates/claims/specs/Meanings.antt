@@ -8,7 +8,7 @@ use lib.Dec.{T, eqb, leb, ltb}
 use lib.ListN.{length, getD}
 use lib.Ieee.{Float, nan, lt, le, isNan}
 use lib.Ieee.Scale.{finite}
-use Rattle.claims.specs.Words.{zero64, allFinite, Row, Matrix, Means, GwrBandwidth, GwrOptions, Setup, Data, inverseCell, inverseFinite, coefficientsFinite, Criterion, greatestDistance, lengthsFit, unusableGiven, nothingBetween, SomeNotFinite, UnusableGiven, NothingBetween, Stage, Ended, isEnded, OfKind, kindsFit, isUnknown, optionsOf}
+use Rattle.claims.specs.Words.{zero64, allFinite, Row, Matrix, Means, GwrBandwidth, GwrOptions, Setup, Trusts, Data, trustCount, inverseCell, inverseFinite, coefficientsFinite, Criterion, greatestDistance, trustsFit, lengthsFit, unusableGiven, nothingBetween, SomeNotFinite, BadTrust, UnusableGiven, NothingBetween, Stage, Ended, isEnded, OfKind, kindsFit, isUnknown, optionsOf}
 
 -- P of some number below m
 abbrev pub Some : ℕ → (ℕ → Type 0) → Type 0
@@ -26,12 +26,16 @@ pub record Meanings : Type 0 where
   -- 8, 9, 10: some number is NaN or infinite; 9 of a distance: NaN or negative
   pub not-finite : (l : List Float) → Means (not (allFinite l)) (SomeNotFinite l)
   pub negative : (d : Float) → Means (not (le zero64 d)) (T (isNan d) ⊎ T (lt d zero64))
+  -- 26: some trust that is asked for is NaN, below 0 or above 1
+  pub trusts : (t : Trusts) → Means (not (trustsFit t)) (BadTrust t)
   -- 11, 12
   pub unusable : (o : GwrOptions) → Means (unusableGiven (o .«optimize_bandwidth») (o .bandwidth)) (UnusableGiven (o .«optimize_bandwidth») (o .bandwidth))
   pub nothing : (u : Setup) (d : Data) →
       let o = u .options in
       let hi = greatestDistance (d .coords) (u .n) in
       Means (nothingBetween (o .«optimize_bandwidth») (o .bandwidth) hi) (NothingBetween (o .«optimize_bandwidth») (o .bandwidth) hi)
+  -- 27
+  pub weightless : (sum : Float) → Means (not (lt zero64 sum)) (T (isNan sum) ⊎ T (le sum zero64))
   -- 15, 16: some cell of the inverse, or some coefficient, is NaN or infinite
   pub inverse : (a : Matrix) (m : ℕ) → Means (not (inverseFinite a m)) (Some m (λ (r : ℕ). Some m (λ (c : ℕ). T (not (finite (inverseCell a m r c))))))
   pub coefficients : (beta : Row) (m : ℕ) → Means (not (coefficientsFinite beta m)) (Some m (λ (c : ℕ). T (not (finite (getD beta c nan)))))
@@ -42,4 +46,4 @@ pub record Meanings : Type 0 where
   -- 20
   pub ended : (x : Stage) → Means (isEnded x) ((c : Criterion) × (x ≡ Ended c))
   -- 21
-  pub lengths : (u : Setup) (d : Data) → Means (lengthsFit u d) ((length (d .coords) ≡ 2 * u .n) × ((length (d .predictors) ≡ u .n * u .p) × (length (d .responses) ≡ u .n)))
+  pub lengths : (u : Setup) (d : Data) → Means (lengthsFit u d) ((length (d .coords) ≡ 2 * u .n) × ((length (d .predictors) ≡ u .n * u .p) × ((length (d .responses) ≡ u .n) × (trustCount d ≡ u .n))))

@@ -1,6 +1,7 @@
 -- The words that the demands and their proofs take from the crates below, handed on by one name each, in the order of the crates. No definition.
 pub use Rattle.real.specs.Arithmetic.{rounded, Arithmetic, exact}
-pub use Rattle.real.specs.Finite.{allFinite}
+pub use Rattle.real.specs.Finite.{allFinite, inUnit, allInUnit}
+unfoldable pub use Rattle.real.specs.Finite.{allOf}
 unfoldable pub use Rattle.real.specs.Fold.{turns, range}
 pub use Rattle.real.specs.Fractions.{Fraction, fraction, fractionOf, Once, OnceBy}
 pub use Rattle.real.specs.Matrix.{Row, Matrix}
@@ -16,7 +17,7 @@ pub use Rattle.elementary.specs.LnSteps.{LnFinite, SplitAs}
 pub use Rattle.accuracy.specs.PowerSeries.{NearPowerSeries}
 pub use Rattle.refusal.specs.Numbers.{refusalNumber}
 pub use Rattle.refusal.specs.declared.Refusal.{Refusal}
-pub use Rattle.refusal.specs.declared.Refusal.the-variants.{Singular, InverseNotFinite, CoefficientNotFinite, UnfitRecord, AlreadyEnded, LengthsDiffer, ResponseNotFinite, CoordinateNotFinite, PredictorNotFinite, OutputTooShort, DeviationNotFinite}
+pub use Rattle.refusal.specs.declared.Refusal.the-variants.{WeightSumNotPositive, Singular, InverseNotFinite, CoefficientNotFinite, UnfitRecord, AlreadyEnded, LengthsDiffer, ResponseNotFinite, CoordinateNotFinite, PredictorNotFinite, TrustOutOfRange, OutputTooShort, DeviationNotFinite}
 pub use Rattle.checks.specs.Judge.{NoneOf, Decides, FirstOf, Means}
 unfoldable pub use Rattle.checks.specs.Judge.{judge, ruled}
 pub use Rattle.checks.specs.declared.Check.{Check}
@@ -25,7 +26,8 @@ pub use Rattle.kernel.specs.Weight.{FromZeroToOne}
 unfoldable pub use Rattle.kernel.specs.Weight.{squaresOf, distanceOf, weightOf, weighed, unusable}
 pub use Rattle.kernel.specs.declared.GwrKernel.{GwrKernel}
 pub use Rattle.kernel.specs.declared.GwrKernel.the-variants.{Gaussian, Bisquare, Exponential}
-pub use Rattle.setup.specs.Data.{Data}
+pub use Rattle.setup.specs.Data.{Trusts, Data, dataOf, trusting, countIn, trustCount}
+pub use Rattle.setup.specs.Data.Trusts.{unasked, each}
 pub use Rattle.setup.specs.Options.{under}
 pub use Rattle.setup.specs.Shape.{setupOf, Sized}
 pub use Rattle.setup.specs.declared.GwrBandwidth.{GwrBandwidth}
@@ -41,11 +43,11 @@ pub use Rattle.neighbours.specs.Smallest.{Ascending}
 unfoldable pub use Rattle.neighbours.specs.Smallest.{allDistances, metDistances, kthNearest}
 pub use Rattle.neighbours.specs.Walk.{between, nearestOf}
 pub use Rattle.neighbours.specs.declared.Own.the-variants.{At}
-pub use Rattle.weights.specs.Weights.{weightsAt}
+pub use Rattle.weights.specs.Weights.{trustedWeight, weightsAt}
 unfoldable pub use Rattle.weights.specs.Weights.{weightFrom, weightsFrom}
 unfoldable pub use Rattle.normal.specs.Equations.{normalStep, equationsOf}
 pub use Rattle.estimate.specs.Estimate.{refusedWith}
-unfoldable pub use Rattle.estimate.specs.Estimate.{coefficientsOf, coefficientsFinite, fromInverse, eliminatedOf, fitCoefficients}
+unfoldable pub use Rattle.estimate.specs.Estimate.{coefficientsOf, coefficientsFinite, fromInverse, eliminatedOf, coefficientsUnder, fitCoefficients}
 unfoldable pub use Rattle.estimate.specs.Inverse.{inverseFinite, inverseCell}
 pub use Rattle.estimate.specs.NormalEquations.{ExactFit, Solves}
 unfoldable pub use Rattle.evaluate.specs.Evaluate.{squaresStep, sumSquares, localRSquared, valuesAt}
@@ -65,9 +67,9 @@ unfoldable pub use Rattle.golden.specs.Kiefer.{triedOf, playedOf}
 pub use Rattle.golden.specs.declared.Bracket.{Bracket}
 unfoldable pub use Rattle.wire.specs.Wire.{realOf}
 unfoldable pub use Rattle.bounds.specs.Bounds.{bandwidthAt, fartherPair, fartherFrom, greatestDistance}
-pub use Rattle.input.specs.Checks.{fitTests}
-unfoldable pub use Rattle.input.specs.Checks.{inputTests, valueTests, outputTests, lengthsFit, unusableGiven, seeksDistance, nothingBetween, optionTestsAt}
-pub use Rattle.input.specs.Conditions.{SomeNotFinite, UnusableGiven, NothingBetween}
+pub use Rattle.input.specs.Checks.{fitTests, trustsFit}
+unfoldable pub use Rattle.input.specs.Checks.{shapeTests, inputTests, valueTests, outputTests, lengthsFit, unusableGiven, seeksDistance, nothingBetween, optionTestsAt}
+pub use Rattle.input.specs.Conditions.{SomeNotFinite, BadTrust, UnusableGiven, NothingBetween}
 pub use Rattle.plan.specs.Plan.{planOf, accepted}
 unfoldable pub use Rattle.plan.specs.Plan.{acceptOf, resolveInitialBandwidth, planAt}
 pub use Rattle.plan.specs.declared.Acceptance.{Acceptance}
@@ -83,8 +85,11 @@ pub use Rattle.sweep.specs.declared.Sweep.{Sweep}
 pub use Rattle.sweep.specs.declared.Swept.{Swept}
 pub use Rattle.search.specs.Literal.{Variables, beforeLoop}
 unfoldable pub use Rattle.search.specs.Literal.{loopBody, loopFor, goldenSectionMin}
+pub use Rattle.search.specs.Search.{scoredOf, roundWith, optimumOf}
 unfoldable pub use Rattle.search.specs.Search.{optimizeBandwidth, roundOf, openedOf, goldenOf}
+pub use Rattle.search.specs.Trial.{trialFrom}
 unfoldable pub use Rattle.search.specs.Trial.{trialOf}
+pub use Rattle.search.specs.declared.Optimum.{Optimum}
 pub use Rattle.search.specs.declared.Search.{Search}
 pub use Rattle.search.specs.declared.Trial.{Trial}
 pub use Rattle.gwr.specs.Fit.{fitFrom, answered, planned}

@@ -5,7 +5,7 @@ use lib.Dec.{eqb}
 use Rattle.claims.specs.Words.{refusalNumber, Criterion, Job, byStage}
 use Rattle.criterion.specs.declared.Criterion.the-variants as criterion
 
--- 01: a job that ends keeps the location of its last solve. With a value or 17 that was n - 1, and its row was written; with 14, 15 or 16 its row was not
+-- 01: a job that ends keeps the location of its last solve. With a value or 17 that was n - 1, and its row was written; with 27, 14, 15 or 16 its row was not
 abbrev pub rowsEnded : Criterion → ℕ → ℕ → ℕ
 rowsEnded (criterion.Value v) n i = n
 rowsEnded (criterion.Refused r) n i = cond (eqb (refusalNumber r) 17) n i

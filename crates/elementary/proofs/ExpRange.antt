@@ -7,8 +7,8 @@ use native.Mathlib.Omega.{arith}
 use mathlib.Core.Bool.{Bool, true, false, not, cond}
 use lib.IntN.{pos}
 use lib.Dec.{T, ltb, ltb→lt, lit<}
-use lib.Ieee.{Float, nan, inf, fin, binary64, add, mul, neg, lt, le, eq, ofBits, toUnsigned, isNan}
-use lib.Ieee.Fits.{and-l, and-r}
+use lib.Ieee.{Float, nan, inf, fin, binary64, add, mul, neg, lt, le, eq, ofBits, toUnsigned, isNan, fits}
+use lib.Ieee.Fits.{and-l, and-r, mul-fits, cond-fits, nan-fits}
 use lib.Ieee.Bits.{is-true}
 use lib.Ieee.Scale.{finite}
 use Rattle.real.specs.Reals.{zero64, one64, magnitude}
@@ -254,6 +254,14 @@ exp-range v nn h = subst (λ (x : Float). T (le nought x) × T (le x one)) (sym 
 pub exp-in : (v : Float) → T (not (isNan v)) → T (le v zero64) → T (finite (expv v)) × T (le zero64 (expv v)) × T (le (expv v) one64)
 unfolding ofBits
 exp-in v n h = let i = exp-range v n h in (in-fin nought (expv v) one tt tt (i .0) (i .1), i .0, i .1)
+
+-- whatever v is, the answer is a number of binary64
+pub exp-fits : (v : Float) → T (fits binary64 (expv v))
+unfolding expv ofBits
+exp-fits v = cond-fits binary64 (lt v floor708) nought _ (unfold fits in tt) (cond-fits binary64 (le v nought) (expNear v) nan near (nan-fits binary64))
+  where
+    near : T (fits binary64 (expNear v))
+    near = unfold expNear in mul-fits binary64 (expSteps 13 (expRest v (expK v)) one64) (twoToMinus (expK v))
 
 -- what is at most 0 and not below -708 is -708 or more
 number-of : (v : Float) → T (le v nought) → T (not (isNan v))

@@ -3,6 +3,8 @@ use mathlib.Core.Path.{_≡_, refl, _∙_}
 use Prim.Native.Nat.{ℕ}
 use native.Mathlib.Omega.{arith}
 use lib.ListN.{length, length-set}
+use lib.Ieee.{Float, lt}
+use Rattle.real.specs.Reals.{zero64}
 use Rattle.real.proofs.Cases.{either}
 use Rattle.real.proofs.Fold.{kept}
 use Rattle.setup.specs.declared.Setup.{Setup}
@@ -10,7 +12,7 @@ use Rattle.setup.specs.Data.{Data}
 use Rattle.real.specs.Matrix.{Row, Matrix}
 use Rattle.estimate.specs.declared.Estimated.{Estimated}
 use Rattle.estimate.specs.Inverse.{inverseFinite}
-use Rattle.estimate.specs.Estimate.{coefficientsFinite, coefficientStep, coefficientsOf, fromInverse, eliminatedOf, fitCoefficients}
+use Rattle.estimate.specs.Estimate.{coefficientsFinite, coefficientStep, coefficientsOf, fromInverse, eliminatedOf, coefficientsUnder, fitCoefficients}
 
 abbrev Eight : Estimated → Type 0
 Eight e = length (e .beta) ≡ 8
@@ -29,6 +31,7 @@ from-eight a rhs m =
     (either Eight (coefficientsFinite (coefficientsOf a rhs m) m) _ _ (coefficients-eight a rhs m) refl)
     refl
 
-pub fit-eight : (u : Setup) (d : Data) (w : Row) → length (fitCoefficients u d w .0 .beta) ≡ 8
-unfolding fitCoefficients
-fit-eight u d w = either Eight (eliminatedOf u d w .0) _ _ (from-eight _ _ _) refl
+pub fit-eight : (u : Setup) (d : Data) (w : Row) (sum : Float) → length (fitCoefficients u d w sum .0 .beta) ≡ 8
+unfolding coefficientsUnder fitCoefficients
+fit-eight u d w sum =
+    either (λ (f : Estimated × Matrix). Eight (f .0)) (lt zero64 sum) _ _ (either Eight (eliminatedOf u d w .0) _ _ (from-eight _ _ _) refl) refl

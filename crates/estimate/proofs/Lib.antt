@@ -1,3 +1,4 @@
 pub mod Lengths
 pub mod NormalEquations
 pub mod Meanings
+pub mod Blind

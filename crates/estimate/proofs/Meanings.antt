@@ -1,17 +1,19 @@
--- What 15 and 16 ask in plain mathematics: some cell of the inverse, or some coefficient, is NaN or infinite.
+-- What 27, 15 and 16 ask in plain mathematics: the weights sum to NaN or at most zero; some cell of the inverse, or some coefficient, is NaN or infinite.
 use mathlib.Core.Path.{_≡_, refl, sym, ap, subst, subst⁻¹, _∙_}
 use mathlib.Core.Bool.{Bool, true, false, not, _&&_}
-use mathlib.Core.Logic.{_↔_, inl, inr}
+use mathlib.Core.Logic.{_↔_, _⊎_, inl, inr}
 use Prim.Native.Nat.{ℕ, zero, suc, _+_, _<_}
 use native.Mathlib.Nat.{zero-add, sub-zero}
 use native.Mathlib.Omega.{arith}
 use lib.Dec.{T}
 use lib.ListN.{getD}
-use lib.Ieee.{Float, nan}
+use lib.Ieee.{Float, nan, inf, fin, lt, le, isNan, ofBits}
 use lib.Ieee.Scale.{finite}
 use Rattle.real.specs.Fold.{turns, range}
 use Rattle.real.specs.Matrix.{Row, Matrix}
-use Rattle.real.proofs.SignedOrder.{here-or-on}
+use Rattle.real.proofs.SignedOrder.{here-or-on, apart, nlt→le}
+use Rattle.real.proofs.Cases.{by-truth}
+use Rattle.real.specs.Reals.{zero64}
 use Rattle.estimate.specs.Inverse.{allStep, allBelow, inverseCell, inverseRowFinite, inverseFinite}
 use Rattle.estimate.specs.Estimate.{coefficientsFinite}
 
@@ -86,3 +88,23 @@ coefficient-not-finite-means beta m =
     decide (coefficientsFinite beta m)
     (λ e. let c = all-not (λ (q : ℕ). finite (getD beta q nan)) m e in (c .0, c .1, unfit (getD beta (c .0) nan) (c .2)))
     (λ e h. fit-not (getD beta (h .0) nan) (all-are (λ (q : ℕ). finite (getD beta q nan)) m e (h .0) (h .1)) (h .2))
+
+-- a sum of weights that is not above zero
+pub weightless-means : (sum : Float) → (not (lt zero64 sum) ≡ true) ↔ (T (isNan sum) ⊎ T (le sum zero64))
+weightless-means sum = (λ e. by-truth (isNan sum) (λ k. inl k) (λ n. inr (nlt→le zero64 sum number-zero n (subst⁻¹ T e tt))), λ h. denied (lt zero64 sum) (below h))
+  where
+    number-zero : T (not (isNan zero64))
+    number-zero = unfold isNan ofBits in tt
+
+    denied : (b : Bool) → (T b → ⊥) → not b ≡ true
+    denied true k = absurd (k tt)
+    denied false k = refl
+
+    not-nan : (x : Float) → T (isNan x) → T (lt zero64 x) → ⊥
+    not-nan nan a b = unfold lt ofBits in b
+    not-nan (inf s) a b = unfold isNan in a
+    not-nan (fin s m e) a b = unfold isNan in a
+
+    below : T (isNan sum) ⊎ T (le sum zero64) → T (lt zero64 sum) → ⊥
+    below (inl k) l = not-nan sum k l
+    below (inr k) l = apart zero64 sum l k

@@ -9,7 +9,7 @@ use native.Mathlib.Nat.{zero-mul, not-suc-le-zero, not-le-of-lt, lt-of-not-le, e
 use lib.Dec.{T, eqb, ltb, leb, leb→le}
 use lib.Pow.{pow-add, pow-lt}
 use lib.IntN.{ℤ, pos, negsuc, sucℤ, predℤ, negℤ, negℤ-negℤ, negℤ-+ℤ, _+ℤ_, _*ℤ_, +ℤ-comm, +ℤ-assoc, +ℤ-idl, +ℤ-idr, *ℤ-comm, *ℤ-zero, zero-*ℤ, sucℤ-*ℤ, predℤ-*ℤ}
-use lib.Ieee.{fin, binary64, fits, up, down}
+use lib.Ieee.{Float, fin, binary64, fits, up, down}
 use lib.Ieee.Digits.{back}
 use lib.Ieee.Fits.{and-l, and-r}
 use borrow.Author.Tests.{eq-eqb, ne-eqb}
@@ -198,11 +198,11 @@ pub inverse-solves : (u : Setup) (d : Data) (w : Row) (e : Equations) (a : Matri
 inverse-solves u d w e a beta c = solved (u .p + 1) unitsOfOne (matrixAt e) (inverseAt a (u .p + 1)) (cellAt (e .1)) (cellAt beta) (c .inverse) (c .coefficients)
 
 -- (XᵀWX) β = XᵀWy of an exact fit, for any number of predictors and observations
-pub normal-equations : (u : Setup) (d : Data) (w : Row) → ExactFit u d w → Solves u d w (fitCoefficients u d w .0 .beta)
-normal-equations u d w c =
+pub normal-equations : (u : Setup) (d : Data) (w : Row) (sum : Float) → ExactFit u d w sum → Solves u d w (fitCoefficients u d w sum .0 .beta)
+normal-equations u d w sum c =
     let m = u .p + 1 in
     let s = equationsOf u d w in
-    let f = fitCoefficients u d w in
+    let f = fitCoefficients u d w sum in
     λ k h.
     published m unitsOfOne (matrixAt s) (inverseAt (f .1) m) (cellAt (s .1)) (cellAt (f .0 .beta)) (c .inverse) (c .coefficients)
     k (λ q. momentAt u d w (designAt u d w q) k) (momentAt u d w (cellAt (d .responses)) k) h (λ q l. c .matrix k q h l) (c .right k h)

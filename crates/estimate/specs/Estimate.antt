@@ -2,12 +2,12 @@
 use Prim.Native.Nat.{ℕ, _+_}
 use mathlib.Core.Bool.{Bool, cond}
 use lib.ListN.{getD, set, replicate}
-use lib.Ieee.{nan}
+use lib.Ieee.{Float, nan, lt}
 use lib.Ieee.Scale.{finite}
 use Rattle.real.specs.Fold.{range}
 use Rattle.real.specs.Reals.{zero64}
 use Rattle.refusal.specs.declared.Refusal.{Refusal}
-use Rattle.refusal.specs.declared.Refusal.the-variants.{Singular, InverseNotFinite, CoefficientNotFinite}
+use Rattle.refusal.specs.declared.Refusal.the-variants.{WeightSumNotPositive, Singular, InverseNotFinite, CoefficientNotFinite}
 use Rattle.setup.specs.declared.Setup.{Setup}
 use Rattle.setup.specs.Data.{Data}
 use Rattle.real.specs.Matrix.{Row, Matrix}
@@ -45,8 +45,12 @@ fromInverse a rhs m =
 unfoldable pub eliminatedOf : Setup → Data → Row → Bool × Matrix
 eliminatedOf u d w = invertMatrix (equationsOf u d w .0) (u .p + 1)
 
--- a fit at a place: the coefficients or the refusal, 14 where A is singular, and the eliminated matrix with the inverse
-unfoldable pub fitCoefficients : Setup → Data → Row → Estimated × Matrix
-fitCoefficients u d w =
+-- the coefficients under weights that weigh something, or the refusal, 14 where A is singular; and the eliminated matrix with the inverse
+unfoldable pub coefficientsUnder : Setup → Data → Row → Estimated × Matrix
+coefficientsUnder u d w =
     let e = eliminatedOf u d w in
     (cond (e .0) (fromInverse (e .1) (equationsOf u d w .1) (u .p + 1)) (refusedWith Singular), e .1)
+
+-- a fit at a place, under weights with this sum: first `weight_sum <= 0.0`, 02's 27, for which no matrix is eliminated. A sum that is not finite cannot be (`weight-sum` of demand 2)
+unfoldable pub fitCoefficients : Setup → Data → Row → Float → Estimated × Matrix
+fitCoefficients u d w sum = cond (lt zero64 sum) (coefficientsUnder u d w) (refusedWith WeightSumNotPositive, replicate 8 (replicate 16 zero64))

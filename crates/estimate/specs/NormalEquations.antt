@@ -64,6 +64,6 @@ module _ (u : Setup) (d : Data) (w : Row) where
         → sumBelow (u .p + 1) (λ q. unitsOf (mirroredCell (e .0) k q) *ℤ unitsOf (inverseCell a (u .p + 1) q r)) ≡ cond (eqb k r) (unitsOfOne *ℤ unitsOfOne) (pos 0)
     pub coefficients : (q : ℕ) → q < u .p + 1 → sumBelow (u .p + 1) (λ r. unitsOf (inverseCell a (u .p + 1) q r) *ℤ cellAt (e .1) r) ≡ cellAt beta q *ℤ unitsOfOne
 
-  -- the fit's are such
-  abbrev pub ExactFit : Type 0
-  ExactFit = Exact (equationsOf u d w) (fitCoefficients u d w .1) (fitCoefficients u d w .0 .beta)
+  -- those of the fit under weights with this sum are such
+  abbrev pub ExactFit : Float → Type 0
+  ExactFit sum = Exact (equationsOf u d w) (fitCoefficients u d w sum .1) (fitCoefficients u d w sum .0 .beta)

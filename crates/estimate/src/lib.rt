@@ -3,7 +3,7 @@ ghost use mathlib.Core.Path.{_≡_};
 ghost use Prim.Native.Nat.{_≤_};
 ghost use Rattle.setup.specs.Data.{dataOf};
 ghost use Rattle.setup.specs.Shape.{Shaped};
-ghost use Rattle.estimate.specs.Estimate.{coefficientsFinite, coefficientsOf, refusedWith, fromInverse, fitCoefficients};
+ghost use Rattle.estimate.specs.Estimate.{coefficientsFinite, coefficientsOf, refusedWith, fromInverse, coefficientsUnder, fitCoefficients};
 use refusal::Refusal;
 use setup::Setup;
 
@@ -79,7 +79,7 @@ fn from_inverse(a: &[[f64; 16]; 8], rhs: [f64; 8], m: usize) -> Estimated
 }
 
 // The coefficients of the fit under the weights w; the eliminated matrix goes to `inverse`.
-pub fn fit_coefficients(
+fn coefficients_under(
     coords: &[f64],
     x: &[f64],
     y: &[f64],
@@ -88,7 +88,7 @@ pub fn fit_coefficients(
     inverse: &mut [[f64; 16]; 8],
 ) -> Estimated
     requires { ⌜ Shaped u (dataOf (now coords) (now x) (now y)) ⌝ }
-    ensures { λ r. ⌜ (r, now (inverse .exit)) ≡ fitCoefficients u (dataOf (now (coords .entry)) (now (x .entry)) (now (y .entry))) (now (w .entry)) ⌝ }
+    ensures { λ r. ⌜ (r, now (inverse .exit)) ≡ coefficientsUnder u (dataOf (now (coords .entry)) (now (x .entry)) (now (y .entry))) (now (w .entry)) ⌝ }
 {
     let m = u.p + 1;
     let mut a = [[0.0; 8]; 8];
@@ -102,4 +102,24 @@ pub fn fit_coefficients(
     } else {
         refused_with(Refusal::Singular)
     }
+}
+
+// The same under weights with this sum, which must be above zero.
+pub fn fit_coefficients(
+    coords: &[f64],
+    x: &[f64],
+    y: &[f64],
+    u: Setup,
+    w: &[f64; 512],
+    sum: f64,
+    inverse: &mut [[f64; 16]; 8],
+) -> Estimated
+    requires { ⌜ Shaped u (dataOf (now coords) (now x) (now y)) ⌝ }
+    ensures { λ r. ⌜ (r, now (inverse .exit)) ≡ fitCoefficients u (dataOf (now (coords .entry)) (now (x .entry)) (now (y .entry))) (now (w .entry)) sum ⌝ }
+{
+    if sum > 0.0 {
+        return coefficients_under(coords, x, y, u, w, inverse);
+    }
+    *inverse = [[0.0; 16]; 8];
+    refused_with(Refusal::WeightSumNotPositive)
 }

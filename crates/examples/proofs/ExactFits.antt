@@ -21,7 +21,7 @@ use Rattle.gauss.specs.Gauss.{eliminated, tryStep, gaussStep, reduced, pivotOf,
 use Rattle.estimate.specs.declared.Estimate.the-variants.{Fitted}
 use Rattle.estimate.specs.declared.Estimated.{Estimated}
 use Rattle.estimate.specs.Inverse.{invertMatrix, inverseCell, inverseStep, inverseTimes, allStep, allBelow, inverseRowFinite, inverseFinite}
-use Rattle.estimate.specs.Estimate.{coefficientsFinite, coefficientStep, coefficientsOf, fromInverse, eliminatedOf, fitCoefficients}
+use Rattle.estimate.specs.Estimate.{coefficientsFinite, coefficientStep, coefficientsOf, fromInverse, eliminatedOf, coefficientsUnder, fitCoefficients}
 use Rattle.estimate.specs.NormalEquations.{unitsOfOne, sumBelow, cellAt, designAt, momentAt, Exact, Solves, ExactFit}
 use Rattle.estimate.proofs.NormalEquations.{matrixAt, inverseAt, normal-equations}
 use Rattle.examples.specs.ExactFits.{Family, familySetup, familyData, ExactlySolved, meanOfTwo, lineOfThree, planeOfFour}
@@ -62,7 +62,7 @@ module _ (f : Family) where
   equations = equationsOf u d (f .w)
 
   abbrev fit : Estimated × Matrix
-  fit = fitCoefficients u d (f .w)
+  fit = fitCoefficients u d (f .w) (f .sum)
 
   abbrev gram : ℕ → ℕ → ℤ
   gram k q = momentAt u d (f .w) (designAt u d (f .w) q) k
@@ -96,7 +96,7 @@ module _ (f : Family) where
     same-product : square m product ≡ square m identity
     same-solution : table m solution ≡ table m beta
 
-  exactly : Computed → ExactFit u d (f .w)
+  exactly : Computed → ExactFit u d (f .w) (f .sum)
   exactly c =
       subst (λ (e : Estimated). Exact u d (f .w) equations (fit .1) (e .beta)) (sym (c .same-beta))
       (record {
@@ -111,11 +111,11 @@ module _ (f : Family) where
       record {
         found = c .same-beta;
         exact = exactly c;
-        solves = subst (λ (e : Estimated). Solves u d (f .w) (e .beta)) (c .same-beta) (normal-equations u d (f .w) (exactly c));
+        solves = subst (λ (e : Estimated). Solves u d (f .w) (e .beta)) (c .same-beta) (normal-equations u d (f .w) (f .sum) (exactly c));
       }
 
 computed : Computed meanOfTwo × Computed lineOfThree × Computed planeOfFour
-unfolding fitCoefficients eliminatedOf equationsOf fromInverse invertMatrix inverseFinite inverseRowFinite coefficientsFinite coefficientsOf coefficientStep allBelow allStep inverseTimes inverseStep inverseCell eliminated tryStep gaussStep reduced pivotOf pivotStep divRow divStep lessRow lessStep cleared clearStep clearRow cell normalStep observe observeStep addRow cellStep designRow designStep mirroredCell mirrorStep augmentedRow augmentStep augmentedMatrix range magnitude ofInt add sub mul div lt eq ofBits sumBelow table momentAt square
+unfolding fitCoefficients coefficientsUnder eliminatedOf equationsOf fromInverse invertMatrix inverseFinite inverseRowFinite coefficientsFinite coefficientsOf coefficientStep allBelow allStep inverseTimes inverseStep inverseCell eliminated tryStep gaussStep reduced pivotOf pivotStep divRow divStep lessRow lessStep cleared clearStep clearRow cell normalStep observe observeStep addRow cellStep designRow designStep mirroredCell mirrorStep augmentedRow augmentStep augmentedMatrix range magnitude ofInt add sub mul div lt eq ofBits sumBelow table momentAt square
 computed = (
   record { same-beta = refl; same-matrix = refl; same-right = refl; same-product = refl; same-solution = refl },
   record { same-beta = refl; same-matrix = refl; same-right = refl; same-product = refl; same-solution = refl },

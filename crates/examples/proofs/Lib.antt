@@ -4,3 +4,4 @@ pub mod Played
 pub mod ExactFits
 pub mod DefaultCounts
 pub mod Guarded
+pub mod Trusted

@@ -16,11 +16,12 @@ use Rattle.estimate.specs.Estimate.{fitCoefficients}
 use Rattle.estimate.specs.NormalEquations.{ExactFit, Solves}
 use Rattle.examples.specs.Examples.{wholeNumber}
 
--- n observations, p predictors each in x, responses y and weights w, and the coefficients
+-- n observations, p predictors each in x, responses y, weights w and their sum, and the coefficients
 pub record Family : Type 0 where
   pub x : Row
   pub y : Row
   pub w : Row
+  pub sum : Float
   pub n : ℕ
   pub p : ℕ
   pub beta : Row
@@ -34,8 +35,8 @@ familyData f = dataOf [] (f .x) (f .y)
 
 -- the coefficients are found, exact, and solve the published equations
 pub record ExactlySolved (f : Family) : Type 0 where
-  pub found : fitCoefficients (familySetup f) (familyData f) (f .w) .0 ≡ record { estimate = Fitted; beta = f .beta }
-  pub exact : ExactFit (familySetup f) (familyData f) (f .w)
+  pub found : fitCoefficients (familySetup f) (familyData f) (f .w) (f .sum) .0 ≡ record { estimate = Fitted; beta = f .beta }
+  pub exact : ExactFit (familySetup f) (familyData f) (f .w) (f .sum)
   pub solves : Solves (familySetup f) (familyData f) (f .w) (f .beta)
 
 abbrev pub minusOne : Float
@@ -48,6 +49,7 @@ meanOfTwo =
       x = [];
       y = wholeNumber 2 ∷ (wholeNumber 6 ∷ []);
       w = wholeNumber 1 ∷ (wholeNumber 3 ∷ []);
+      sum = wholeNumber 4;
       n = 2;
       p = 0;
       beta = wholeNumber 5 ∷ replicate 7 zero64;
@@ -60,6 +62,7 @@ lineOfThree =
       x = wholeNumber 0 ∷ (wholeNumber 1 ∷ (wholeNumber 2 ∷ []));
       y = wholeNumber 2 ∷ (wholeNumber 3 ∷ (wholeNumber 8 ∷ []));
       w = wholeNumber 1 ∷ (wholeNumber 2 ∷ (wholeNumber 1 ∷ []));
+      sum = wholeNumber 4;
       n = 3;
       p = 1;
       beta = wholeNumber 1 ∷ (wholeNumber 3 ∷ replicate 6 zero64);
@@ -72,6 +75,7 @@ planeOfFour =
       x = minusOne ∷ (minusOne ∷ (minusOne ∷ (wholeNumber 1 ∷ (wholeNumber 1 ∷ (minusOne ∷ (wholeNumber 1 ∷ (wholeNumber 1 ∷ [])))))));
       y = wholeNumber 1 ∷ (wholeNumber 2 ∷ (wholeNumber 4 ∷ (wholeNumber 9 ∷ [])));
       w = replicate 4 (wholeNumber 1);
+      sum = wholeNumber 4;
       n = 4;
       p = 2;
       beta = wholeNumber 4 ∷ (fin false 5 (negsuc 0) ∷ (fin false 3 (negsuc 0) ∷ replicate 5 zero64));

@@ -4,7 +4,7 @@ ghost use mathlib.Core.Bool.{true};
 ghost use Prim.Native.Nat.{_*_, _≤_};
 ghost use lib.ListN.{length};
 ghost use Rattle.setup.specs.Bandwidth.{Usable};
-ghost use Rattle.setup.specs.Data.{dataOf};
+ghost use Rattle.setup.specs.Data.{trustedData};
 ghost use Rattle.setup.specs.Shape.{Shaped};
 ghost use Rattle.sweep.specs.Sweep.{RoomFor};
 ghost use Rattle.gwr.specs.Fit.{finalOf, soughtOf, gwrFit};
@@ -33,17 +33,18 @@ fn final_of(
     coords: &[f64],
     x: &[f64],
     y: &[f64],
+    trust: &[f64],
     u: Setup,
     b: GwrBandwidth,
     before: u64,
     out: &mut [f64],
 ) -> Fit
-    requires { ⌜ Shaped u (dataOf (now coords) (now x) (now y)) ⌝ }
+    requires { ⌜ Shaped u (trustedData (now coords) (now x) (now y) (now trust)) ⌝ }
     requires { ⌜ Usable b ⌝ }
     requires { ⌜ RoomFor true u (length (now out)) × (before ≤ 512 * 102) ⌝ }
-    ensures { λ r. ⌜ (r, now (out .exit)) ≡ finalOf u (dataOf (now (coords .entry)) (now (x .entry)) (now (y .entry))) b before (now (out .entry)) ⌝ }
+    ensures { λ r. ⌜ (r, now (out .exit)) ≡ finalOf u (trustedData (now (coords .entry)) (now (x .entry)) (now (y .entry)) (now (trust .entry))) b before (now (out .entry)) ⌝ }
 {
-    let s = sweep::fit_all_locations(coords, x, y, u, b, true, out);
+    let s = sweep::fit_all_locations(coords, x, y, trust, u, b, true, out);
     let reached = s.sweep;
     let ending = s.ending(u);
     let solves = s.solves();
@@ -59,18 +60,19 @@ fn sought_of(
     coords: &[f64],
     x: &[f64],
     y: &[f64],
+    trust: &[f64],
     u: Setup,
     lo: f64,
     hi: f64,
     out: &mut [f64],
 ) -> Fit
-    requires { ⌜ Shaped u (dataOf (now coords) (now x) (now y)) ⌝ }
+    requires { ⌜ Shaped u (trustedData (now coords) (now x) (now y) (now trust)) ⌝ }
     requires { ⌜ RoomFor true u (length (now out)) ⌝ }
-    ensures { λ r. ⌜ (r, now (out .exit)) ≡ soughtOf u (dataOf (now (coords .entry)) (now (x .entry)) (now (y .entry))) lo hi (now (out .entry)) ⌝ }
+    ensures { λ r. ⌜ (r, now (out .exit)) ≡ soughtOf u (trustedData (now (coords .entry)) (now (x .entry)) (now (y .entry)) (now (trust .entry))) lo hi (now (out .entry)) ⌝ }
 {
-    let found = search::optimize_bandwidth(coords, x, y, u, lo, hi);
+    let found = search::optimize_bandwidth(coords, x, y, trust, u, lo, hi);
     let b = found.bandwidth;
-    final_of(coords, x, y, u, b, found.solves, out)
+    final_of(coords, x, y, trust, u, b, found.solves, out)
 }
 
 // 000's `gwr_fit`: the fit of n observations of p predictors each, n being half the number of coordinates.
@@ -78,23 +80,24 @@ pub fn gwr_fit(
     coords: &[f64],
     x: &[f64],
     y: &[f64],
+    trust: &[f64],
     p: usize,
     options: GwrOptions,
     out: &mut [f64],
 ) -> Fit
-    ensures { λ r. ⌜ (r, now (out .exit)) ≡ gwrFit (dataOf (now (coords .entry)) (now (x .entry)) (now (y .entry))) p options (now (out .entry)) ⌝ }
+    ensures { λ r. ⌜ (r, now (out .exit)) ≡ gwrFit (trustedData (now (coords .entry)) (now (x .entry)) (now (y .entry)) (now (trust .entry))) p options (now (out .entry)) ⌝ }
 {
     let n = coords.len() / 2;
     let u = Setup { options, n, p };
-    let acceptance = plan::accept(coords, x, y, p, options, out.len());
+    let acceptance = plan::accept(coords, x, y, trust, p, options, out.len());
     match acceptance {
         Acceptance::Refused(r) => Fit {
             answer: FitAnswer::Rejected(r),
             rows: 0,
         },
         Acceptance::Planned(q) => match q {
-            Plan::Settled(b) => final_of(coords, x, y, u, b, 0, out),
-            Plan::Sought(lo, hi) => sought_of(coords, x, y, u, lo, hi, out),
+            Plan::Settled(b) => final_of(coords, x, y, trust, u, b, 0, out),
+            Plan::Sought(lo, hi) => sought_of(coords, x, y, trust, u, lo, hi, out),
         },
     }
 }

@@ -1,41 +1,49 @@
--- The input checks of 01's 'Refusals from the input', as ordered lists: a further refusal is one entry. Definitions only.
+-- The input checks of 01's 'Refusals from the input' and 02's 26, as ordered lists: a further refusal is one entry. Definitions only.
 use Prim.Native.Nat.{ℕ, _+_, _*_, _/_, _%_}
 use mathlib.Core.Bool.{Bool, true, false, not, _&&_}
 use mathlib.Core.List.{List, [], _∷_, _++_}
 use lib.Dec.{eqb, ltb}
 use lib.ListN.{length}
 use lib.Ieee.{Float}
-use Rattle.real.specs.Finite.{allFinite}
+use Rattle.real.specs.Finite.{allFinite, allInUnit}
 use Rattle.refusal.specs.declared.Refusal.{Refusal}
-use Rattle.refusal.specs.declared.Refusal.the-variants.{NoCoordinates, OddCoordinates, TooManyObservations, TooManyPredictors, PredictorLength, ResponseLength, TooFewObservations, ResponseNotFinite, CoordinateNotFinite, PredictorNotFinite, OutputTooShort, UnusableDistance, NoDistanceRange}
+use Rattle.refusal.specs.declared.Refusal.the-variants.{TrustOutOfRange, NoCoordinates, OddCoordinates, TooManyObservations, TooManyPredictors, PredictorLength, ResponseLength, TooFewObservations, ResponseNotFinite, CoordinateNotFinite, PredictorNotFinite, OutputTooShort, UnusableDistance, NoDistanceRange}
 use Rattle.setup.specs.declared.GwrBandwidth.{GwrBandwidth}
 use Rattle.setup.specs.declared.GwrBandwidth.the-variants.{Fixed, AdaptiveKnn}
 use Rattle.setup.specs.declared.GwrOptions.{GwrOptions}
 use Rattle.setup.specs.declared.Setup.{Setup}
-use Rattle.setup.specs.Data.{Data}
+use Rattle.setup.specs.Data.{Trusts, Data, trustCount}
+use Rattle.setup.specs.Data.Trusts.{unasked, each}
 use Rattle.setup.specs.Shape.{setupOf}
 use Rattle.bounds.specs.Bounds.{greatestDistance, usableDistance}
 
 -- ---- lengths, values and room
 
--- 01: 1 no coordinates, 2 odd coordinate count, 3 n > 512, 4 p > 7, 5 predictor length not n × p, 6 response length not n, 7 n < p + 1, of the lengths of coordinates, predictors and responses
-unfoldable pub shapeTests : ℕ → ℕ → ℕ → ℕ → List (Bool × Refusal)
-shapeTests coords x y p =
+-- 01: 1 no coordinates, 2 odd coordinate count, 3 n > 512, 4 p > 7, 5 predictor length not n × p, 6 response length not n, 02: or number of trusts not n, 7 n < p + 1, of the lengths of coordinates, predictors, responses and trusts
+unfoldable pub shapeTests : ℕ → ℕ → ℕ → ℕ → ℕ → List (Bool × Refusal)
+shapeTests coords x y trusts p =
     (eqb coords 0, NoCoordinates)
     ∷ (eqb (coords % 2) 1, OddCoordinates)
     ∷ (ltb 512 (coords / 2), TooManyObservations)
     ∷ (ltb 7 p, TooManyPredictors)
     ∷ (not (eqb x (coords / 2 * p)), PredictorLength)
     ∷ (not (eqb y (coords / 2)), ResponseLength)
+    ∷ (not (eqb trusts (coords / 2)), ResponseLength)
     ∷ (ltb (coords / 2) (p + 1), TooFewObservations)
     ∷ []
 
--- 01: 8 response, 9 coordinate, 10 predictor not finite
+-- every trust that is asked for lies from 0 to 1
+abbrev pub trustsFit : Trusts → Bool
+trustsFit unasked = true
+trustsFit (each t) = allInUnit t
+
+-- 01: 8 response, 9 coordinate, 10 predictor not finite; 02: 26 trust not in 0..1, right after 10
 unfoldable pub valueTests : Data → List (Bool × Refusal)
 valueTests d =
     (not (allFinite (d .responses)), ResponseNotFinite)
     ∷ (not (allFinite (d .coords)), CoordinateNotFinite)
     ∷ (not (allFinite (d .predictors)), PredictorNotFinite)
+    ∷ (not (trustsFit (d .trusts)), TrustOutOfRange)
     ∷ []
 
 -- 01: 13 output too short, which has to hold n × (p + 4) numbers
@@ -46,15 +54,16 @@ outputTests n p out = (ltb out (n * (p + 4)), OutputTooShort) ∷ []
 abbrev pub roomTests : Setup → ℕ → List (Bool × Refusal)
 roomTests u out = outputTests (u .n) (u .p) out
 
--- 01's order: 1 to 7, 8 to 10, 13, of p predictors and the output's length
+-- 01's order: 1 to 7, 8 to 10, 26, 13, of p predictors and the output's length
 unfoldable pub inputTests : Data → ℕ → ℕ → List (Bool × Refusal)
 inputTests d p out =
-    shapeTests (length (d .coords)) (length (d .predictors)) (length (d .responses)) p
+    shapeTests (length (d .coords)) (length (d .predictors)) (length (d .responses)) (trustCount d) p
     ++ (valueTests d ++ outputTests (length (d .coords) / 2) p out)
 
 -- what 21 denies: the lengths that the job's sizes say
 unfoldable pub lengthsFit : Setup → Data → Bool
-lengthsFit u d = eqb (length (d .coords)) (2 * u .n) && (eqb (length (d .predictors)) (u .n * u .p) && eqb (length (d .responses)) (u .n))
+lengthsFit u d =
+    eqb (length (d .coords)) (2 * u .n) && (eqb (length (d .predictors)) (u .n * u .p) && (eqb (length (d .responses)) (u .n) && eqb (trustCount d) (u .n)))
 
 -- ---- options
 
@@ -87,6 +96,6 @@ optionTests u d = optionTestsAt (u .options) (greatestDistance (d .coords) (u .n
 
 -- ---- the whole
 
--- 01's order: 1 to 7, 8 to 10, 13, 11, 12
+-- 01's order: 1 to 7, 8 to 10, 26, 13, 11, 12
 abbrev pub fitTests : Data → ℕ → GwrOptions → ℕ → List (Bool × Refusal)
 fitTests d p o out = inputTests d p out ++ optionTests (setupOf d p o) d

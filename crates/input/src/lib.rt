@@ -1,13 +1,14 @@
 // The input checks in document 01's order: lists of tests, each read from its top, so that a further refusal is one line.
 ghost use mathlib.Core.Path.{_≡_};
 ghost use Prim.Native.Nat.{_≤_};
-ghost use Rattle.setup.specs.Data.{dataOf};
+ghost use Rattle.setup.specs.Data.{trustedData};
 ghost use Rattle.setup.specs.Shape.{Sized};
 ghost use Rattle.checks.specs.Judge.{judge};
 ghost use Rattle.input.specs.Checks.{shapeTests, valueTests, outputTests, roomTests, inputTests, lengthsFit, unusableGiven, seeksDistance, nothingBetween, optionTestsAt};
 use bounds::usable_distance;
 use checks::Check;
 use real::all_finite;
+use real::all_in_unit;
 use real::both;
 use refusal::Refusal;
 use setup::GwrBandwidth;
@@ -15,8 +16,8 @@ use setup::GwrOptions;
 use setup::Setup;
 
 // Refusals 1 to 7: the lengths of the slices and the number of predictors.
-fn check_shape(coords: usize, x: usize, y: usize, p: usize) -> Check
-    ensures { λ r. ⌜ r ≡ judge (shapeTests coords x y p) ⌝ }
+fn check_shape(coords: usize, x: usize, y: usize, trusts: usize, p: usize) -> Check
+    ensures { λ r. ⌜ r ≡ judge (shapeTests coords x y trusts p) ⌝ }
 {
     if coords == 0 {
         return Check::Refused(Refusal::NoCoordinates);
@@ -37,15 +38,18 @@ fn check_shape(coords: usize, x: usize, y: usize, p: usize) -> Check
     if y != n {
         return Check::Refused(Refusal::ResponseLength);
     }
+    if trusts != n {
+        return Check::Refused(Refusal::ResponseLength);
+    }
     if n < p + 1 {
         return Check::Refused(Refusal::TooFewObservations);
     }
     Check::Pass
 }
 
-// Refusals 8 to 10: a response, coordinate or predictor that is not finite.
-pub fn check_values(coords: &[f64], x: &[f64], y: &[f64]) -> Check
-    ensures { λ r. ⌜ r ≡ judge (valueTests (dataOf (now (coords .entry)) (now (x .entry)) (now (y .entry)))) ⌝ }
+// Refusals 8 to 10, a response, coordinate or predictor that is not finite, and 26, a trust that is not in 0..1.
+pub fn check_values(coords: &[f64], x: &[f64], y: &[f64], trust: &[f64]) -> Check
+    ensures { λ r. ⌜ r ≡ judge (valueTests (trustedData (now (coords .entry)) (now (x .entry)) (now (y .entry)) (now (trust .entry)))) ⌝ }
 {
     if !all_finite(y) {
         return Check::Refused(Refusal::ResponseNotFinite);
@@ -55,6 +59,9 @@ pub fn check_values(coords: &[f64], x: &[f64], y: &[f64]) -> Check
     }
     if !all_finite(x) {
         return Check::Refused(Refusal::PredictorNotFinite);
+    }
+    if !all_in_unit(trust) {
+        return Check::Refused(Refusal::TrustOutOfRange);
     }
     Check::Pass
 }
@@ -78,15 +85,22 @@ pub fn check_room(u: Setup, out: usize) -> Check
     check_output(u.n, u.p, out)
 }
 
-// Refusals 1 to 7, 8 to 10 and 13. `out` is the output's length.
-pub fn check_input(coords: &[f64], x: &[f64], y: &[f64], p: usize, out: usize) -> Check
-    ensures { λ r. ⌜ r ≡ judge (inputTests (dataOf (now (coords .entry)) (now (x .entry)) (now (y .entry))) p out) ⌝ }
+// Refusals 1 to 7, 8 to 10, 26 and 13. `out` is the output's length.
+pub fn check_input(
+    coords: &[f64],
+    x: &[f64],
+    y: &[f64],
+    trust: &[f64],
+    p: usize,
+    out: usize,
+) -> Check
+    ensures { λ r. ⌜ r ≡ judge (inputTests (trustedData (now (coords .entry)) (now (x .entry)) (now (y .entry)) (now (trust .entry))) p out) ⌝ }
 {
-    let shape = check_shape(coords.len(), x.len(), y.len(), p);
+    let shape = check_shape(coords.len(), x.len(), y.len(), trust.len(), p);
     match shape {
         Check::Refused(r) => Check::Refused(r),
         Check::Pass => {
-            let values = check_values(coords, x, y);
+            let values = check_values(coords, x, y, trust);
             match values {
                 Check::Refused(r) => Check::Refused(r),
                 Check::Pass => check_output(coords.len() / 2, p, out),
@@ -96,11 +110,12 @@ pub fn check_input(coords: &[f64], x: &[f64], y: &[f64], p: usize, out: usize) -
 }
 
 // Whether the slices have the lengths that the job's sizes say.
-pub fn lengths_fit(coords: &[f64], x: &[f64], y: &[f64], u: Setup) -> bool
+pub fn lengths_fit(coords: &[f64], x: &[f64], y: &[f64], trust: &[f64], u: Setup) -> bool
     requires { ⌜ Sized u ⌝ }
-    ensures { λ r. ⌜ r ≡ lengthsFit u (dataOf (now (coords .entry)) (now (x .entry)) (now (y .entry))) ⌝ }
+    ensures { λ r. ⌜ r ≡ lengthsFit u (trustedData (now (coords .entry)) (now (x .entry)) (now (y .entry)) (now (trust .entry))) ⌝ }
 {
-    let rest = both(x.len() == u.n * u.p, y.len() == u.n);
+    let answers = both(y.len() == u.n, trust.len() == u.n);
+    let rest = both(x.len() == u.n * u.p, answers);
     both(coords.len() == 2 * u.n, rest)
 }
 

@@ -23,7 +23,7 @@ use Rattle.fitness.specs.Fitness.{isFit}
 
 -- ---- the refusals of a turn, where out is the output's length
 
--- 21 lengths other than the record's n and p say, then 8, 9, 10, 13
+-- 21 lengths other than the record's n and p say, then 8, 9, 10, 26, 13
 unfoldable pub lentTests : Setup → Data → ℕ → List (Bool × Refusal)
 lentTests u d out = (not (lengthsFit u d), LengthsDiffer) ∷ (valueTests d ++ roomTests u out)
 

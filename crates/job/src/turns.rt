@@ -3,7 +3,7 @@ ghost use mathlib.Core.Path.{_≡_};
 ghost use Prim.Native.Nat.{_+_, _*_, _≤_};
 ghost use lib.ListN.{length};
 ghost use Rattle.setup.specs.Bandwidth.{Usable};
-ghost use Rattle.setup.specs.Data.{dataOf};
+ghost use Rattle.setup.specs.Data.{trustedData};
 ghost use Rattle.setup.specs.Shape.{Sized, Shaped};
 ghost use Rattle.checks.specs.Judge.{judge};
 ghost use Rattle.stepping.specs.Sound.{Sound};
@@ -17,13 +17,13 @@ use setup::Setup;
 use stepping::Job;
 use stepping::Stage;
 
-// Refusal 21, then 8, 9, 10 and 13, of what a turn is lent.
-fn check_lent(coords: &[f64], x: &[f64], y: &[f64], u: Setup, out: usize) -> Check
+// Refusal 21, then 8, 9, 10, 26 and 13, of what a turn is lent.
+fn check_lent(coords: &[f64], x: &[f64], y: &[f64], trust: &[f64], u: Setup, out: usize) -> Check
     requires { ⌜ Sized u ⌝ }
-    ensures { λ r. ⌜ r ≡ judge (lentTests u (dataOf (now (coords .entry)) (now (x .entry)) (now (y .entry))) out) ⌝ }
+    ensures { λ r. ⌜ r ≡ judge (lentTests u (trustedData (now (coords .entry)) (now (x .entry)) (now (y .entry)) (now (trust .entry))) out) ⌝ }
 {
-    if input::lengths_fit(coords, x, y, u) {
-        let values = input::check_values(coords, x, y);
+    if input::lengths_fit(coords, x, y, trust, u) {
+        let values = input::check_values(coords, x, y, trust);
         return match values {
             Check::Refused(r) => Check::Refused(r),
             Check::Pass => input::check_room(u, out),
@@ -33,8 +33,8 @@ fn check_lent(coords: &[f64], x: &[f64], y: &[f64], u: Setup, out: usize) -> Che
 }
 
 // The refusals of a turn in order.
-fn check_turn(j: Job, coords: &[f64], x: &[f64], y: &[f64], out: usize) -> Check
-    ensures { λ r. ⌜ r ≡ judge (turnTests j (dataOf (now (coords .entry)) (now (x .entry)) (now (y .entry))) out) ⌝ }
+fn check_turn(j: Job, coords: &[f64], x: &[f64], y: &[f64], trust: &[f64], out: usize) -> Check
+    ensures { λ r. ⌜ r ≡ judge (turnTests j (trustedData (now (coords .entry)) (now (x .entry)) (now (y .entry)) (now (trust .entry))) out) ⌝ }
 {
     if is_fit(j) {
         let stage = j.stage;
@@ -42,7 +42,7 @@ fn check_turn(j: Job, coords: &[f64], x: &[f64], y: &[f64], out: usize) -> Check
             return Check::Refused(Refusal::AlreadyEnded);
         }
         let u = j.setup;
-        return check_lent(coords, x, y, u, out);
+        return check_lent(coords, x, y, trust, u, out);
     }
     Check::Refused(Refusal::UnfitRecord)
 }
@@ -77,11 +77,19 @@ fn tell(j: Job, steps: u32) -> Turned
 }
 
 // Steps until the allowance is spent or the job ends.
-fn run(j: Job, coords: &[f64], x: &[f64], y: &[f64], out: &mut [f64], allowance: u32) -> Turned
+fn run(
+    j: Job,
+    coords: &[f64],
+    x: &[f64],
+    y: &[f64],
+    trust: &[f64],
+    out: &mut [f64],
+    allowance: u32,
+) -> Turned
     requires { ⌜ Sound 0 j ⌝ }
-    requires { ⌜ Shaped (j .setup) (dataOf (now coords) (now x) (now y)) ⌝ }
+    requires { ⌜ Shaped (j .setup) (trustedData (now coords) (now x) (now y) (now trust)) ⌝ }
     requires { ⌜ j .setup .n * (j .setup .p + 4) ≤ length (now out) ⌝ }
-    ensures { λ r. ⌜ (r, now (out .exit)) ≡ runOf j (dataOf (now (coords .entry)) (now (x .entry)) (now (y .entry))) (now (out .entry)) allowance ⌝ }
+    ensures { λ r. ⌜ (r, now (out .exit)) ≡ runOf j (trustedData (now (coords .entry)) (now (x .entry)) (now (y .entry)) (now (trust .entry))) (now (out .entry)) allowance ⌝ }
 {
     let mut k = j;
     let mut left = allowance;
@@ -91,7 +99,7 @@ fn run(j: Job, coords: &[f64], x: &[f64], y: &[f64], out: &mut [f64], allowance:
         if stage.is_ended() {
             return tell(k, made);
         }
-        k = k.step(coords, x, y, &mut *out);
+        k = k.step(coords, x, y, trust, &mut *out);
         made = made + 1;
         left = left - 1;
     }
@@ -99,16 +107,24 @@ fn run(j: Job, coords: &[f64], x: &[f64], y: &[f64], out: &mut [f64], allowance:
 }
 
 // A turn: refused, or so many steps as the allowance and the end allow.
-pub fn turn(j: Job, coords: &[f64], x: &[f64], y: &[f64], out: &mut [f64], allowance: u32) -> Turned
-    ensures { λ r. ⌜ (r, now (out .exit)) ≡ turnOf j (dataOf (now (coords .entry)) (now (x .entry)) (now (y .entry))) (now (out .entry)) allowance ⌝ }
+pub fn turn(
+    j: Job,
+    coords: &[f64],
+    x: &[f64],
+    y: &[f64],
+    trust: &[f64],
+    out: &mut [f64],
+    allowance: u32,
+) -> Turned
+    ensures { λ r. ⌜ (r, now (out .exit)) ≡ turnOf j (trustedData (now (coords .entry)) (now (x .entry)) (now (y .entry)) (now (trust .entry))) (now (out .entry)) allowance ⌝ }
 {
-    let check = check_turn(j, coords, x, y, out.len());
+    let check = check_turn(j, coords, x, y, trust, out.len());
     match check {
         Check::Refused(r) => Turned {
             answer: Answer::Refused(r),
             steps: 0,
             job: j,
         },
-        Check::Pass => run(j, coords, x, y, out, allowance),
+        Check::Pass => run(j, coords, x, y, trust, out, allowance),
     }
 }

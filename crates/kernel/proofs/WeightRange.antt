@@ -1,4 +1,4 @@
--- Every weight of a distance that is not negative lies from 0 to 1, a distance of 0 weighs 1, and a sum of weights with a 1 among them is finite and above 0. Assumes nothing.
+-- Every weight of a distance that is not negative lies from 0 to 1, a distance of 0 weighs 1, and a sum of weights is finite, and above 0 where one of them is. Assumes nothing.
 use mathlib.Core.Path.{_≡_, refl, sym, ap, _∙_, subst}
 use mathlib.Core.Logic.{inl, inr}
 use Prim.Native.Nat.{ℕ, zero, suc, _+_, _*_, _%_, _^_, _≤_, _<_, zero-le}
@@ -10,16 +10,17 @@ use lib.IntN.{ℤ, pos}
 use lib.Dec.{T, leb, ltb, eqb, ltb→lt, lt→ltb, lit<}
 use lib.Ieee.{Float, nan, inf, fin, binary64, up, down, add, mul, div, sub, neg, lt, le, eq, ofBits, ofInt, round, fits, unlike}
 use lib.Ieee.Bits.{is-true}
-use lib.Ieee.Fits.{and-l, and-r, div-fits}
+use lib.Ieee.Fits.{and-l, and-r, div-fits, mul-fits, cond-fits}
 use lib.Ieee.Order.{round-mono}
 use lib.Ieee.Scale.{finite, round-same}
 use lib.Ieee.Positive.{num, den, den-pos}
 use Rattle.real.specs.Reals.{zero64, one64, magnitude}
 use Rattle.real.specs.Arithmetic.{rounded}
 use Rattle.real.proofs.Closed.{one, half, nought}
-use Rattle.real.proofs.SignedOrder.{sgn, le-tr, neg-anti, natural, nat-fin, nat-sgn, add-mono, mul-opened, div-by, div-smono, mag-of, mag-finite, in-fin, lt→le, le-self, sub-opened, neg-finite, zero-of, zero-over, round-sgn, round-mag, round-below, square-mag, nat-above, number-left, lt-of-not-le}
+use Rattle.real.proofs.Values.{plus-nought, nought-plus}
+use Rattle.real.proofs.SignedOrder.{sgn, le-tr, neg-anti, natural, nat-fin, nat-sgn, add-mono, mul-opened, div-by, div-smono, mag-of, mag-finite, in-fin, lt→le, le-self, sub-opened, neg-finite, zero-of, zero-over, round-sgn, round-mag, round-below, square-mag, nat-above, number-left, lt-of-not-le, apart}
 use Rattle.elementary.specs.Exp.{expv}
-use Rattle.elementary.proofs.ExpRange.{exp-in}
+use Rattle.elementary.proofs.ExpRange.{exp-in, exp-fits}
 use Rattle.kernel.specs.declared.GwrKernel.{GwrKernel}
 use Rattle.kernel.specs.declared.GwrKernel.the-variants.{Gaussian, Bisquare, Exponential}
 use Rattle.kernel.specs.Published.{gaussianFormula, bisquareFormula, exponentialFormula, kernelFormula}
@@ -231,6 +232,14 @@ in-one : In01 one
 unfolding le
 in-one = (tt, tt)
 
+nought-fits : T (fits binary64 nought)
+unfolding fits
+nought-fits = tt
+
+one-fits : T (fits binary64 one)
+unfolding fits
+one-fits = tt
+
 in-cond : (c : Bool) (x y : Float) → (T c → In01 x) → (T (not c) → In01 y) → In01 (cond c x y)
 in-cond true x y h k = h tt
 in-cond false x y h k = k tt
@@ -355,9 +364,9 @@ none : T (le nought (ofInt binary64 (pos 0))) × T (le nought nought)
 unfolding ofInt le
 none = (tt, tt)
 
-sums : (add binary64 nought nought ≡ nought) × (add binary64 one nought ≡ one) × (add binary64 nought one ≡ one)
+no-sum : add binary64 nought nought ≡ nought
 unfolding add
-sums = (refl, refl, refl)
+no-sum = refl
 
 module _ (w : ℕ → Float) where
   total-zero : totalOf w zero ≡ nought
@@ -374,7 +383,7 @@ module _ (w : ℕ → Float) where
       let fS = in-fin nought (totalOf w n) (ofInt binary64 (pos n)) tt (count-fin n c') (p .0) (p .1) in
       let fw = in-fin nought (w n) one tt tt (q .0) (q .1) in
       subst (λ (x : Float). T (le nought x) × T (le x (ofInt binary64 (pos (suc n))))) (sym (total-suc w n)) (
-        subst (λ (x : Float). T (le x (add binary64 (totalOf w n) (w n)))) (sums .0) (add-mono binary64 nought (totalOf w n) nought (w n) tt fS tt fw (p .0) (q .0)),
+        subst (λ (x : Float). T (le x (add binary64 (totalOf w n) (w n)))) no-sum (add-mono binary64 nought (totalOf w n) nought (w n) tt fS tt fw (p .0) (q .0)),
         le-tr (add binary64 (totalOf w n) (w n)) (add binary64 (ofInt binary64 (pos n)) one) (ofInt binary64 (pos (suc n)))
             (add-mono binary64 (totalOf w n) (ofInt binary64 (pos n)) (w n) one fS (count-fin n c') fw tt (p .1) (q .1))
             (and-l (le (add binary64 (ofInt binary64 (pos n)) one) (ofInt binary64 (pos (suc n)))) (finite (ofInt binary64 (pos (suc n)))) (and-l (le (add binary64 (ofInt binary64 (pos n)) one) (ofInt binary64 (pos (suc n))) && finite (ofInt binary64 (pos (suc n)))) (counts n) c)),
@@ -383,36 +392,45 @@ module _ (w : ℕ → Float) where
   total-finite : (n : ℕ) → n ≤ 512 → ((i : ℕ) → i < n → In01 (w i)) → T (finite (totalOf w n))
   total-finite n h ok = let p = total-in n h ok in in-fin nought (totalOf w n) (ofInt binary64 (pos n)) tt (count-fin n (counts-at 512 n counted h)) (p .0) (p .1)
 
-  -- with a 1 among them the sum is 1 at least
-  total-one : (n j : ℕ) → n ≤ 512 → ((i : ℕ) → i < n → In01 (w i)) → j < n → w j ≡ one → T (le one (totalOf w n))
-  total-one zero j h ok l e = absurd (not-suc-le-zero l)
-  total-one (suc n) j h ok l e =
+  -- the sum is at least each of them
+  total-each : (n j : ℕ) → n ≤ 512 → ((i : ℕ) → i < n → In01 (w i)) → j < n → T (fits binary64 (w j)) → T (le (w j) (totalOf w n))
+  total-each zero j h ok l F = absurd (not-suc-le-zero l)
+  total-each (suc n) j h ok l F =
       let ok' : (i : ℕ) → i < n → In01 (w i) = λ (i : ℕ) (g : i < n). ok i (le-trans g (le-suc n)) in
       let p = total-in n (le-of-lt h) ok' in
       let q = ok n (le-refl (suc n)) in
+      let r = ok j l in
       let fS = total-finite n (le-of-lt h) ok' in
       let fw = in-fin nought (w n) one tt tt (q .0) (q .1) in
-      subst (λ (x : Float). T (le one x)) (sym (total-suc w n))
+      let fj = in-fin nought (w j) one tt tt (r .0) (r .1) in
+      subst (λ (x : Float). T (le (w j) x)) (sym (total-suc w n))
       (elim (eq-or-lt-of-le l) [
         | inl g ↦
-            subst (λ (x : Float). T (le x (add binary64 (totalOf w n) (w n)))) (sums .2)
-            (add-mono binary64 nought (totalOf w n) one (w n) tt fS tt fw (p .0) (subst (λ (x : Float). T (le one x)) (sym (ap w (sym (last j n g)) ∙ e)) (le-self one tt)))
+            le-tr (w j) (add binary64 nought (w j)) (add binary64 (totalOf w n) (w n)) (nought-plus binary64 (w j) F fj)
+            (add-mono binary64 nought (totalOf w n) (w j) (w n) tt fS fj fw (p .0) (subst (λ (i : ℕ). T (le (w j) (w i))) (last j n g) (le-self (w j) fj)))
         | inr g ↦
-            subst (λ (x : Float). T (le x (add binary64 (totalOf w n) (w n)))) (sums .1)
-            (add-mono binary64 one (totalOf w n) nought (w n) tt fS tt fw (total-one n j (le-of-lt h) ok' (le-of-suc-le-suc g) e) (q .0))
+            le-tr (w j) (add binary64 (w j) nought) (add binary64 (totalOf w n) (w n)) (plus-nought binary64 (w j) F fj)
+            (add-mono binary64 (w j) (totalOf w n) nought (w n) fj fS tt fw (total-each n j (le-of-lt h) ok' (le-of-suc-le-suc g) F) (q .0))
       ])
     where
       last : (a b : ℕ) → suc a ≡ suc b → a ≡ b
       last a b h = omega arith
 
-no-one : T (le one nought) → ⊥
-unfolding le
-no-one t = t
-
--- 000's refusal of a weight sum, `weight_sum <= 0.0 || !weight_sum.is_finite()`, never occurs: the sum of up to 512 weights with a 1 among them is finite and above 0
-pub never-refused : (w : ℕ → Float) (n j : ℕ) → n ≤ 512 → ((i : ℕ) → i < n → FromZeroToOne (w i)) → j < n → w j ≡ one64 → T (finite (totalOf w n)) × T (lt zero64 (totalOf w n))
+-- 000's refusal of a weight sum, `weight_sum <= 0.0 || !weight_sum.is_finite()`: the sum of up to 512 weights is finite, and above 0 where one of them is
+pub total-positive : (w : ℕ → Float) (n j : ℕ) → n ≤ 512 → ((i : ℕ) → i < n → FromZeroToOne (w i)) → j < n → T (fits binary64 (w j)) → T (finite (totalOf w n)) × (T (lt zero64 (w j)) → T (lt zero64 (totalOf w n)))
 unfolding ofBits
-never-refused w n j h ok l e =
+total-positive w n j h ok l F =
     let ok' : (i : ℕ) → i < n → In01 (w i) = λ (i : ℕ) (g : i < n). (ok i g .low, ok i g .high) in
     let f = total-finite w n h ok' in
-    (f, lt-of-not-le nought (totalOf w n) tt f (λ (k : T (le (totalOf w n) nought)). no-one (le-tr one (totalOf w n) nought (total-one w n j h ok' l e) k)))
+    (f, λ above. lt-of-not-le nought (totalOf w n) tt f (λ (k : T (le (totalOf w n) nought)). apart nought (w j) above (le-tr (w j) (totalOf w n) nought (total-each w n j h ok' l F) k)))
+
+-- ---- a weight is a number of binary64
+kernel-fits : (k : GwrKernel) (d b : Float) → T (fits binary64 (kernelWeight k d b))
+kernel-fits Gaussian d b = subst (λ (x : Float). T (fits binary64 x)) (sym (gaussian-is d b)) (exp-fits _)
+kernel-fits Bisquare d b = subst (λ (x : Float). T (fits binary64 x)) (sym (bisquare-is d b)) (cond-fits binary64 (lt d b) _ _ (mul-fits binary64 _ _) nought-fits)
+kernel-fits Exponential d b = subst (λ (x : Float). T (fits binary64 x)) (sym (exponential-is d b)) (exp-fits _)
+
+pub weight-fits : (k : GwrKernel) (d b : Float) → T (fits binary64 (weightOf k d b))
+weight-fits k d b =
+    subst (λ (x : Float). T (fits binary64 x)) (sym (weight-is k d b))
+    (cond-fits binary64 (unusable b) _ _ (cond-fits binary64 (eq d nought) _ _ one-fits nought-fits) (kernel-fits k d b))

@@ -17,7 +17,7 @@ use Rattle.refusal.specs.declared.Refusal.{Refusal}
 use Rattle.refusal.specs.declared.Refusal.the-variants.{TooFewObservations, OutputTooShort, UnknownNumber}
 use Rattle.refusal.proofs.Range.{numbered}
 use Rattle.setup.specs.declared.GwrOptions.{GwrOptions}
-use Rattle.setup.specs.Data.{Data, dataOf}
+use Rattle.setup.specs.Data.{Data, trusting}
 use Rattle.setup.specs.Shape.{setupOf}
 use Rattle.checks.specs.declared.Check.{Check}
 use Rattle.checks.specs.declared.Check.the-variants as check
@@ -104,10 +104,10 @@ module _ (h : Head) (parts : List ℕ) (known : isUnknown (optionsOf (h .kernel)
   -- the numbers that they are
   same : numbersOf A B D p ≡ dataIn h parts
   same =
-      ap (λ (k : ℕ). dataOf (reals A (2 * k)) (reals B (k * p)) (reals D k)) count
-      ∙ ap (λ (l : List Float). dataOf l (reals B (n * p)) (reals D n)) (reals-front parts (16 * n) (2 * n) (omega arith))
-      ∙ ap (λ (l : List Float). dataOf (reals parts (2 * n)) l (reals D n)) (reals-front (drop (16 * n) parts) (8 * (n * p)) (n * p) (omega arith))
-      ∙ ap (λ (l : List Float). dataOf (reals parts (2 * n)) (reals (drop (16 * n) parts) (n * p)) l) (reals-front (drop (predictorsEnd n p) parts) (8 * n) n (omega arith))
+      ap (λ (k : ℕ). trusting (reals A (2 * k)) (reals B (k * p)) (reals D k)) count
+      ∙ ap (λ (l : List Float). trusting l (reals B (n * p)) (reals D n)) (reals-front parts (16 * n) (2 * n) (omega arith))
+      ∙ ap (λ (l : List Float). trusting (reals parts (2 * n)) l (reals D n)) (reals-front (drop (16 * n) parts) (8 * (n * p)) (n * p) (omega arith))
+      ∙ ap (λ (l : List Float). trusting (reals parts (2 * n)) (reals (drop (16 * n) parts) (n * p)) l) (reals-front (drop (predictorsEnd n p) parts) (8 * n) n (omega arith))
 
   fit-same : numbersFit A B D p o ≡ fitIn h parts
   fit-same = ap (λ (d : Data). gwrFit d p o (replicate (length A / 16 * (p + 4)) zero64)) same ∙ ap (λ (k : ℕ). gwrFit (dataIn h parts) p o (replicate (k * (p + 4)) zero64)) count

@@ -11,7 +11,7 @@ use Rattle.text.specs.Listing.{listing}
 use Rattle.refusal.specs.declared.Refusal.{Refusal}
 use Rattle.refusal.specs.declared.Refusal.the-variants.{TooFewObservations}
 use Rattle.setup.specs.declared.GwrOptions.{GwrOptions}
-use Rattle.setup.specs.Data.{Data, dataOf}
+use Rattle.setup.specs.Data.{Data, trusting}
 use Rattle.setup.specs.Shape.{setupOf}
 use Rattle.input.specs.Checks.{valueTests, optionTests}
 use Rattle.sweep.specs.declared.Finish.the-variants.{Fitted, Failed}
@@ -25,10 +25,10 @@ use Rattle.header.specs.Headers.{headOf, headerTests}
 use Rattle.listing.specs.Jobs.{refusedText}
 use Rattle.header.specs.Cuts.{placesEnd, predictorsEnd, cutTests}
 
--- 01: then coordinates, predictors, responses, 8 bytes each; `parts` is what stands behind the header
+-- 01: then coordinates, predictors, responses, 8 bytes each; `parts` is what stands behind the header. 02: every trust is set to 1
 abbrev pub dataIn : Head → List ℕ → Data
 dataIn h parts =
-    dataOf (reals parts (2 * h .n)) (reals (drop (placesEnd (h .n)) parts) (h .n * h .p)) (reals (drop (predictorsEnd (h .n) (h .p)) parts) (h .n))
+    trusting (reals parts (2 * h .n)) (reals (drop (placesEnd (h .n)) parts) (h .n * h .p)) (reals (drop (predictorsEnd (h .n) (h .p)) parts) (h .n))
 
 -- the options that a header names; where 18 is owed, any
 abbrev pub optionsIn : Head → GwrOptions
@@ -36,7 +36,7 @@ optionsIn h = named (optionsOf (h .kernel) (h .kind) (h .bandwidth))
 
 -- ---- which inputs are refused
 
--- 7, 8 to 10, 11, 12 of the numbers. 13 is not among them: the program lends room for 512 rows
+-- 7, 8 to 10, 11, 12 of the numbers; 26 never holds. 13 is not among them: the program lends room for 512 rows
 unfoldable pub dataTests : Head → List ℕ → List (Bool × Refusal)
 dataTests h parts =
     let d = dataIn h parts in

@@ -10,4 +10,4 @@ use Rattle.local.specs.Solve.{solveLocal, solveLocation}
 
 pub beta-eight : (u : Setup) (d : Data) (bandwidth : GwrBandwidth) (i : ℕ) → length (solveLocation u d bandwidth i .beta) ≡ 8
 unfolding solveLocation solveLocal
-beta-eight u d bandwidth i = fit-eight _ _ _
+beta-eight u d bandwidth i = fit-eight _ _ _ _

@@ -20,11 +20,11 @@ unfoldable pub outcomeOf : Estimate → Values → Outcome
 outcomeOf Fitted v = Found v
 outcomeOf (Failed r) v = Refused r
 
--- `solve_local` at location i and the bandwidth distance b; its refusal of a weight sum not above zero never occurs
+-- `solve_local` at location i and the bandwidth distance b
 unfoldable pub solveLocal : Setup → Data → ℕ → Float → Solved
 solveLocal u d i b =
     let s = weightsAt u d i b in
-    let f = fitCoefficients u d (s .0) in
+    let f = fitCoefficients u d (s .0) (s .1) in
     let beta = f .0 .beta in
     record { outcome = outcomeOf (f .0 .estimate) (valuesAt u d (s .0) i (f .1) beta (s .1)); beta = beta }
 

@@ -8,7 +8,7 @@ ghost use lib.ListN.{length, getD, take};
 ghost use Rattle.real.specs.Reals.{zero64};
 ghost use Rattle.root.specs.Root.{root};
 ghost use Rattle.elementary.specs.Exp.{expv};
-ghost use Rattle.setup.specs.Data.{dataOf};
+ghost use Rattle.setup.specs.Data.{trustedData};
 ghost use Rattle.measured.specs.Turns.{kernelBy, playOf, turnsOf};
 ghost use Rattle.neighbours.specs.Walk.{walkIn};
 ghost use Rattle.measured.specs.Walks.{ownBy, endOf, walksOf, askedOf};
@@ -69,15 +69,16 @@ fn play(
     coords: &[f64],
     x: &[f64],
     y: &[f64],
+    trust: &[f64],
     out: &mut [f64],
     allowance: u32,
     turns: u32,
 ) -> Job
-    ensures { λ r. ⌜ (r, now (out .exit)) ≡ playOf (dataOf (now (coords .entry)) (now (x .entry)) (now (y .entry))) allowance turns (j, now (out .entry)) ⌝ }
+    ensures { λ r. ⌜ (r, now (out .exit)) ≡ playOf (trustedData (now (coords .entry)) (now (x .entry)) (now (y .entry)) (now (trust .entry))) allowance turns (j, now (out .entry)) ⌝ }
 {
     let mut k = j;
     for i in 0..turns {
-        let t = job::turn(k, coords, x, y, &mut *out, allowance);
+        let t = job::turn(k, coords, x, y, trust, &mut *out, allowance);
         k = t.job;
     }
     k
@@ -89,18 +90,19 @@ pub extern "C" fn zescolumba_turns(
     coords: &[f64],
     x: &[f64],
     y: &[f64],
+    trust: &[f64],
     p: usize,
     kernel: u32,
     out: &mut [f64],
     allowance: u32,
     turns: u32,
 ) -> u64
-    ensures { λ r. ⌜ (r, now (out .exit)) ≡ turnsOf (dataOf (now (coords .entry)) (now (x .entry)) (now (y .entry))) p kernel allowance turns (now (out .entry)) ⌝ }
+    ensures { λ r. ⌜ (r, now (out .exit)) ≡ turnsOf (trustedData (now (coords .entry)) (now (x .entry)) (now (y .entry)) (now (trust .entry))) p kernel allowance turns (now (out .entry)) ⌝ }
 {
     let options = GwrOptions::unguarded(kernel_by(kernel), GwrBandwidth::Fixed(400.0), false);
-    let begun = starting::begin(coords, x, y, p, options, &*out);
+    let begun = starting::begin(coords, x, y, trust, p, options, &*out);
     let first = begun.job;
-    let last = play(first, coords, x, y, out, allowance, turns);
+    let last = play(first, coords, x, y, trust, out, allowance, turns);
     last.solves
 }
 
@@ -229,15 +231,16 @@ fn fit_seen(
     coords: &[f64],
     x: &[f64],
     y: &[f64],
+    trust: &[f64],
     p: usize,
     options: GwrOptions,
     out: &mut [f64],
     reals: &mut [f64; 2],
     counts: &mut [u64; 2],
 ) -> u32
-    ensures { λ r. ⌜ ((r, (now (reals .exit), now (counts .exit))), now (out .exit)) ≡ fitSeen (gwrFit (dataOf (now (coords .entry)) (now (x .entry)) (now (y .entry))) p options (now (out .entry))) (now (reals .entry)) (now (counts .entry)) ⌝ }
+    ensures { λ r. ⌜ ((r, (now (reals .exit), now (counts .exit))), now (out .exit)) ≡ fitSeen (gwrFit (trustedData (now (coords .entry)) (now (x .entry)) (now (y .entry)) (now (trust .entry))) p options (now (out .entry))) (now (reals .entry)) (now (counts .entry)) ⌝ }
 {
-    let fit = gwr::gwr_fit(coords, x, y, p, options, out);
+    let fit = gwr::gwr_fit(coords, x, y, trust, p, options, out);
     let answer = fit.answer;
     seen_of(answer, fit.rows, reals, counts)
 }
@@ -249,6 +252,7 @@ pub extern "C" fn zescolumba_fit_judged(
     coords: &[f64],
     x: &[f64],
     y: &[f64],
+    trust: &[f64],
     p: usize,
     kernel: u64,
     kind: u64,
@@ -258,14 +262,14 @@ pub extern "C" fn zescolumba_fit_judged(
     reals: &mut [f64; 2],
     counts: &mut [u64; 2],
 ) -> u32
-    ensures { λ r. ⌜ ((r, (now (reals .exit), now (counts .exit))), now (out .exit)) ≡ judgedFit (dataOf (now (coords .entry)) (now (x .entry)) (now (y .entry))) p kernel kind bandwidth criterion (now (out .entry)) (now (reals .entry)) (now (counts .entry)) ⌝ }
+    ensures { λ r. ⌜ ((r, (now (reals .exit), now (counts .exit))), now (out .exit)) ≡ judgedFit (trustedData (now (coords .entry)) (now (x .entry)) (now (y .entry)) (now (trust .entry))) p kernel kind bandwidth criterion (now (out .entry)) (now (reals .entry)) (now (counts .entry)) ⌝ }
 {
     let choice = request::options_of(kernel, kind, bandwidth);
     match choice {
         Choice::Unknown => Refusal::UnknownNumber.number(),
         Choice::Known(o) => {
             let options = o.judged_by(criterion_by(criterion));
-            fit_seen(coords, x, y, p, options, out, reals, counts)
+            fit_seen(coords, x, y, trust, p, options, out, reals, counts)
         }
     }
 }

@@ -60,6 +60,6 @@ planOptionsAt u hi = accepted (judge (optionTestsAt (u .options) hi)) (planAt u 
 abbrev pub planOptions : Setup → Data → Acceptance
 planOptions u d = planOptionsAt u (greatestDistance (d .coords) (u .n))
 
--- 01's order: 1 to 7, 8 to 10, 13, 11, 12, then the plan. out is the output's length
+-- 01's order: 1 to 7, 8 to 10, 26, 13, 11, 12, then the plan. out is the output's length
 unfoldable pub acceptOf : Data → ℕ → GwrOptions → ℕ → Acceptance
 acceptOf d p o out = accepted (judge (fitTests d p o out)) (planOf (setupOf d p o) d)

@@ -2,7 +2,7 @@
 ghost use mathlib.Core.Path.{_≡_};
 ghost use Prim.Native.Nat.{_*_, _≤_};
 ghost use lib.ListN.{length};
-ghost use Rattle.setup.specs.Data.{dataOf};
+ghost use Rattle.setup.specs.Data.{trustedData};
 ghost use Rattle.setup.specs.Shape.{Sized};
 ghost use Rattle.bounds.specs.Bounds.{greatestDistance};
 ghost use Rattle.plan.specs.Plan.{resolveInitialBandwidth, distancePlan, countPlan, searchPlan, planAt, planOptionsAt, acceptOf};
@@ -109,13 +109,14 @@ pub fn accept(
     coords: &[f64],
     x: &[f64],
     y: &[f64],
+    trust: &[f64],
     p: usize,
     options: GwrOptions,
     out: usize,
 ) -> Acceptance
-    ensures { λ r. ⌜ r ≡ acceptOf (dataOf (now (coords .entry)) (now (x .entry)) (now (y .entry))) p options out ⌝ }
+    ensures { λ r. ⌜ r ≡ acceptOf (trustedData (now (coords .entry)) (now (x .entry)) (now (y .entry)) (now (trust .entry))) p options out ⌝ }
 {
-    let input = check_input(coords, x, y, p, out);
+    let input = check_input(coords, x, y, trust, p, out);
     match input {
         Check::Refused(r) => Acceptance::Refused(r),
         Check::Pass => {

@@ -6,8 +6,8 @@ use Prim.Native.Nat.{ℕ, zero, suc, _+_, _-_, _*_, _/_, _%_, _^_, _≤_, _<_}
 use native.Mathlib.Nat.{sub-self, mul-pos, lt-irrefl, zero-mul, one-mul, mul-one, mul-assoc, mul-comm, mul-right-comm, mul-lt-mul-of-pos-right, not-le-of-lt, lt-of-mul-lt-mul-right}
 use native.Mathlib.Omega.{arith}
 use lib.IntN.{ℤ, pos, negsuc}
-use lib.Dec.{T, ltb, T-not, ltb→lt, lt→ltb, lit≤, eqb, eqb→eq, leb, leb→le}
-use lib.Ieee.{Float, nan, inf, fin, Format, binary64, up, down, round, sum, add, sub, neg, lt, eq, le, fits, ofBits, toBits, toUnsigned, nanBits, prec, emax, low, size, hid, top}
+use lib.Dec.{T, ltb, T-not, ltb→lt, lt→ltb, lit<, lit≤, eqb, eqb→eq, leb, leb→le}
+use lib.Ieee.{Float, nan, inf, fin, Format, binary64, up, down, round, sum, add, sub, mul, neg, lt, eq, le, fits, ofBits, toBits, toUnsigned, nanBits, prec, emax, low, size, hid, top}
 use lib.Pow.{pow-pos, pow-add, pow-lt}
 use lib.Ieee.Fits.{down-pos, and-l, and-r, round-fits, neg-fits}
 use lib.Ieee.Exact.{HasValue, round-exact}
@@ -16,7 +16,7 @@ use lib.Ieee.Nearest.{div-same}
 use lib.Ieee.Scale.{finite}
 use borrow.Author.Tests.{le-ltb}
 use Rattle.real.specs.Reals.{zero64, magnitude}
-use Rattle.real.proofs.SignedOrder.{zero-of, toUnsigned-mono, lt→le, here-or-on, sle-of, of-sle}
+use Rattle.real.proofs.SignedOrder.{P, N, SLe, sle-at, sle-scale, sum-is, add-opened, mul-by, unlike-false, round-smono, zero-of, toUnsigned-mono, lt→le, here-or-on, sle-of, of-sle}
 
 -- ---- x - x is zero where x is finite, and NaN elsewhere
 pub untrue : (b : Bool) → (T b → ⊥) → b ≡ false
@@ -131,6 +131,49 @@ round-own f s m e h =
     go nan q v = absurd v
     go (inf t) q v = absurd v
     go (fin t n d) q v = ap (λ (u : Bool). fin u n d) (v .0) ∙ same-value f s n m d e (subst (λ (u : Bool). T (fits f (fin u n d))) (v .0) q) h (v .1)
+
+-- ---- a neutral operand
+
+-- a number that the format holds, times 1, is that number
+pub times-one : (f : Format) (x : Float) → T (fits f x) → mul f x (fin false 1 (pos 0)) ≡ x
+times-one f nan h = unfold mul in refl
+times-one f (inf s) h = unfold mul in ap inf (unlike-false s)
+times-one f (fin s m e) h =
+    mul-by f (fin s m e) (fin false 1 (pos 0)) tt tt
+    ∙ ap (λ (a : ℕ). round f s a (down e * 1)) (mul-one (m * up e))
+    ∙ ap (λ (c : ℕ). round f s (m * up e) c) (mul-one (down e))
+    ∙ round-own f s m e h
+
+-- ±a over c is at most ±z over c', the sum of ±a and 0
+not-less : (s σ : Bool) (a a' b z c c' : ℕ) → a' ≡ a → b ≡ 0 → c' ≡ c → P σ z + N s a' ≡ N σ z + (P s a' + b) → SLe s (a * c') σ (z * c)
+not-less s σ a a' b z c c' i j l h = sle-at s σ (a * c) (a * c') (z * c) (z * c) (ap (λ (k : ℕ). a * k) (sym l)) refl (sle-scale s σ a z c (by s σ h))
+  where
+    by : (s σ : Bool) → P σ z + N s a' ≡ N σ z + (P s a' + b) → SLe s a σ z
+    by true true k = omega (arith, i, j, k)
+    by true false k = omega (arith, i, j, k)
+    by false true k = omega (arith, i, j, k)
+    by false false k = omega (arith, i, j, k)
+
+-- with 0 added it is not less, on either side
+pub plus-nought : (f : Format) (x : Float) → T (fits f x) → T (finite x) → T (le x (add f x (fin false 0 (pos 0))))
+plus-nought f nan h k = absurd k
+plus-nought f (inf s) h k = absurd k
+plus-nought f (fin s m e) h k =
+    let u = sum-is f s false (m * up e * 1) (0 * down e) (down e * 1) in
+    subst (λ (w : Float). T (le w (add f (fin s m e) (fin false 0 (pos 0))))) (round-own f s m e h)
+    (subst (λ (w : Float). T (le (round f s (m * up e) (down e)) w)) (sym (add-opened f (fin s m e) (fin false 0 (pos 0)) tt tt ∙ u .2))
+    (round-smono f s (u .0) (m * up e) (down e) (u .1) (down e * 1) (down-pos e) (mul-pos (down-pos e) (lit< tt))
+    (not-less s (u .0) (m * up e) (m * up e * 1) (0 * down e) (u .1) (down e) (down e * 1) (mul-one (m * up e)) (zero-mul (down e)) (mul-one (down e)) (let v = u .3 in omega (arith, v)))))
+
+pub nought-plus : (f : Format) (x : Float) → T (fits f x) → T (finite x) → T (le x (add f (fin false 0 (pos 0)) x))
+nought-plus f nan h k = absurd k
+nought-plus f (inf s) h k = absurd k
+nought-plus f (fin s m e) h k =
+    let u = sum-is f false s (0 * down e) (m * up e * 1) (1 * down e) in
+    subst (λ (w : Float). T (le w (add f (fin false 0 (pos 0)) (fin s m e)))) (round-own f s m e h)
+    (subst (λ (w : Float). T (le (round f s (m * up e) (down e)) w)) (sym (add-opened f (fin false 0 (pos 0)) (fin s m e) tt tt ∙ u .2))
+    (round-smono f s (u .0) (m * up e) (down e) (u .1) (1 * down e) (down-pos e) (mul-pos (lit< tt) (down-pos e))
+    (not-less s (u .0) (m * up e) (m * up e * 1) (0 * down e) (u .1) (down e) (1 * down e) (mul-one (m * up e)) (zero-mul (down e)) (one-mul (down e)) (let v = u .3 in omega (arith, v)))))
 
 -- ---- the size of a value
 

@@ -5,7 +5,7 @@ ghost use Prim.Native.Nat.{_<_, _≤_, _^_, min, max};
 ghost use lib.Dec.{T};
 ghost use lib.Ieee.{binary64, lt, ofBits};
 ghost use lib.Ieee.Scale.{finite};
-ghost use Rattle.real.specs.Finite.{allFinite};
+ghost use Rattle.real.specs.Finite.{allFinite, inUnit, allInUnit};
 ghost use Rattle.real.specs.Reals.{magnitude, greater, lesser, clampUnit, clampCount, roundWhole, roundInto, Into, zero64, inf64, fromCount};
 
 // Plus infinity.
@@ -43,6 +43,25 @@ pub fn all_finite(s: &[f64]) -> bool
     let mut good = true;
     for i in 0..s.len() {
         let here = is_finite(s[i]);
+        good = both(good, here);
+    }
+    good
+}
+
+// Whether 0 <= x <= 1.
+pub fn in_unit(x: f64) -> bool
+    ensures { λ r. ⌜ r ≡ inUnit x ⌝ }
+{
+    both(0.0 <= x, x <= 1.0)
+}
+
+// Whether every number of s lies from 0 to 1.
+pub fn all_in_unit(s: &[f64]) -> bool
+    ensures { λ r. ⌜ r ≡ allInUnit (now (s .entry)) ⌝ }
+{
+    let mut good = true;
+    for i in 0..s.len() {
+        let here = in_unit(s[i]);
         good = both(good, here);
     }
     good

@@ -4,7 +4,7 @@ use Prim.Native.Nat.{ℕ, _≤_}
 use native.Mathlib.Omega.{arith}
 use Rattle.refusal.specs.Numbers.{refusalNumber}
 use Rattle.refusal.specs.declared.Refusal.{Refusal}
-use Rattle.refusal.specs.declared.Refusal.the-variants.{NoCoordinates, OddCoordinates, TooManyObservations, TooManyPredictors, PredictorLength, ResponseLength, TooFewObservations, ResponseNotFinite, CoordinateNotFinite, PredictorNotFinite, UnusableDistance, NoDistanceRange, OutputTooShort, Singular, InverseNotFinite, CoefficientNotFinite, DeviationNotFinite, UnknownNumber, UnfitRecord, AlreadyEnded, LengthsDiffer}
+use Rattle.refusal.specs.declared.Refusal.the-variants.{NoCoordinates, OddCoordinates, TooManyObservations, TooManyPredictors, PredictorLength, ResponseLength, TooFewObservations, ResponseNotFinite, CoordinateNotFinite, PredictorNotFinite, UnusableDistance, NoDistanceRange, OutputTooShort, TrustOutOfRange, Singular, InverseNotFinite, CoefficientNotFinite, DeviationNotFinite, WeightSumNotPositive, UnknownNumber, UnfitRecord, AlreadyEnded, LengthsDiffer}
 
 -- beyond the numbers of today, as room for more refusals
 abbrev pub mostNumber : ℕ
@@ -36,3 +36,5 @@ numbered UnknownNumber = record { some = omega arith; most = omega arith }
 numbered UnfitRecord = record { some = omega arith; most = omega arith }
 numbered AlreadyEnded = record { some = omega arith; most = omega arith }
 numbered LengthsDiffer = record { some = omega arith; most = omega arith }
+numbered TrustOutOfRange = record { some = omega arith; most = omega arith }
+numbered WeightSumNotPositive = record { some = omega arith; most = omega arith }

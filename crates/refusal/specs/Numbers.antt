@@ -1,7 +1,7 @@
--- The number of each refusal, as document 01's lists give it. Definitions only.
+-- The number of each refusal, as the lists of documents 01 and 02 give it. Definitions only.
 use Prim.Native.Nat.{ℕ}
 use Rattle.refusal.specs.declared.Refusal.{Refusal}
-use Rattle.refusal.specs.declared.Refusal.the-variants.{NoCoordinates, OddCoordinates, TooManyObservations, TooManyPredictors, PredictorLength, ResponseLength, TooFewObservations, ResponseNotFinite, CoordinateNotFinite, PredictorNotFinite, UnusableDistance, NoDistanceRange, OutputTooShort, Singular, InverseNotFinite, CoefficientNotFinite, DeviationNotFinite, UnknownNumber, UnfitRecord, AlreadyEnded, LengthsDiffer}
+use Rattle.refusal.specs.declared.Refusal.the-variants.{NoCoordinates, OddCoordinates, TooManyObservations, TooManyPredictors, PredictorLength, ResponseLength, TooFewObservations, ResponseNotFinite, CoordinateNotFinite, PredictorNotFinite, UnusableDistance, NoDistanceRange, OutputTooShort, TrustOutOfRange, Singular, InverseNotFinite, CoefficientNotFinite, DeviationNotFinite, WeightSumNotPositive, UnknownNumber, UnfitRecord, AlreadyEnded, LengthsDiffer}
 
 abbrev pub refusalNumber : Refusal → ℕ
 refusalNumber NoCoordinates = 1
@@ -25,3 +25,5 @@ refusalNumber UnknownNumber = 18
 refusalNumber UnfitRecord = 19
 refusalNumber AlreadyEnded = 20
 refusalNumber LengthsDiffer = 21
+refusalNumber TrustOutOfRange = 26
+refusalNumber WeightSumNotPositive = 27

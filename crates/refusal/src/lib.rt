@@ -1,4 +1,4 @@
-// The refusals of document 01. Their numbers stand here and in specs/Numbers.antt, and nowhere else.
+// The refusals of documents 01 and 02. Their numbers stand here and in specs/Numbers.antt, and nowhere else.
 ghost use mathlib.Core.Path.{_≡_};
 ghost use Rattle.refusal.specs.Numbers.{refusalNumber};
 
@@ -17,11 +17,13 @@ pub enum Refusal {
     UnusableDistance,
     NoDistanceRange,
     OutputTooShort,
+    TrustOutOfRange,
     // Met while solving.
     Singular,
     InverseNotFinite,
     CoefficientNotFinite,
     DeviationNotFinite,
+    WeightSumNotPositive,
     // Of the byte calls.
     UnknownNumber,
     // From the state, of a turn.
@@ -56,6 +58,8 @@ impl Refusal {
             Refusal::UnfitRecord => 19,
             Refusal::AlreadyEnded => 20,
             Refusal::LengthsDiffer => 21,
+            Refusal::TrustOutOfRange => 26,
+            Refusal::WeightSumNotPositive => 27,
         }
     }
 }

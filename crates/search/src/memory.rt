@@ -1,7 +1,7 @@
 // The trials that a search has made. A searched count comes to few counts, and a bracket that has shrunk to the same points
 // again: such trials are looked up, not worked again.
 ghost use mathlib.Core.Path.{_≡_};
-ghost use Rattle.setup.specs.Data.{dataOf};
+ghost use Rattle.setup.specs.Data.{trustedData};
 ghost use Rattle.setup.specs.Shape.{Shaped};
 ghost use Rattle.search.specs.Trial.{trialOf};
 ghost use Rattle.search.specs.Memo.{keyOf, Slot, Remembered};
@@ -41,15 +41,16 @@ pub fn trial_of(
     coords: &[f64],
     x: &[f64],
     y: &[f64],
+    trust: &[f64],
     u: Setup,
     point: f64,
     tried: &mut [[u64; 2]; 102],
     scores: &mut [f64; 102],
 ) -> Trial
-    requires { ⌜ Shaped u (dataOf (now coords) (now x) (now y)) ⌝ }
-    requires { ⌜ Remembered u (dataOf (now coords) (now x) (now y)) (now tried) (now scores) ⌝ }
-    ensures { λ r. ⌜ r ≡ trialOf u (dataOf (now (coords .entry)) (now (x .entry)) (now (y .entry))) point ⌝ }
-    ensures { λ _. ⌜ Remembered u (dataOf (now (coords .entry)) (now (x .entry)) (now (y .entry))) (now (tried .exit)) (now (scores .exit)) ⌝ }
+    requires { ⌜ Shaped u (trustedData (now coords) (now x) (now y) (now trust)) ⌝ }
+    requires { ⌜ Remembered u (trustedData (now coords) (now x) (now y) (now trust)) (now tried) (now scores) ⌝ }
+    ensures { λ r. ⌜ r ≡ trialOf u (trustedData (now (coords .entry)) (now (x .entry)) (now (y .entry)) (now (trust .entry))) point ⌝ }
+    ensures { λ _. ⌜ Remembered u (trustedData (now (coords .entry)) (now (x .entry)) (now (y .entry)) (now (trust .entry))) (now (tried .exit)) (now (scores .exit)) ⌝ }
 {
     let b = bounds::bandwidth_at(u, point);
     let key = key_of(b);
@@ -63,7 +64,7 @@ pub fn trial_of(
             };
         }
     }
-    let t = evaluate_aicc(coords, x, y, u, b);
+    let t = evaluate_aicc(coords, x, y, trust, u, b);
     tried[j] = [key, t.solves];
     scores[j] = t.score;
     t

@@ -4,7 +4,7 @@ use mathlib.Core.Path.{_≡_}
 use lib.ListN.{length}
 use Rattle.setup.specs.declared.GwrOptions.{GwrOptions}
 use Rattle.setup.specs.declared.Setup.{Setup}
-use Rattle.setup.specs.Data.{Data}
+use Rattle.setup.specs.Data.{Data, trustCount}
 
 -- 01: n is half the number of coordinates
 abbrev pub setupOf : Data → ℕ → GwrOptions → Setup
@@ -22,3 +22,4 @@ pub record Shaped (u : Setup) (d : Data) : Type 0 where
   pub places : length (d .coords) ≡ 2 * u .n
   pub rows : length (d .predictors) ≡ u .n * u .p
   pub answers : length (d .responses) ≡ u .n
+  pub trusted : trustCount d ≡ u .n

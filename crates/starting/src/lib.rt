@@ -1,7 +1,7 @@
 // The input checks, and a job set up for its first trial or its final fit.
 ghost use mathlib.Core.Path.{_≡_};
 ghost use lib.ListN.{length};
-ghost use Rattle.setup.specs.Data.{dataOf};
+ghost use Rattle.setup.specs.Data.{trustedData};
 ghost use Rattle.setup.specs.Shape.{Sized};
 ghost use Rattle.starting.specs.Begin.{blankJob, startJob, beginOf};
 use golden::Bracket;
@@ -62,13 +62,14 @@ pub fn begin(
     coords: &[f64],
     x: &[f64],
     y: &[f64],
+    trust: &[f64],
     p: usize,
     options: GwrOptions,
     out: &[f64],
 ) -> Begun
-    ensures { λ r. ⌜ r ≡ beginOf (dataOf (now (coords .entry)) (now (x .entry)) (now (y .entry))) p options (length (now (out .entry))) ⌝ }
+    ensures { λ r. ⌜ r ≡ beginOf (trustedData (now (coords .entry)) (now (x .entry)) (now (y .entry)) (now (trust .entry))) p options (length (now (out .entry))) ⌝ }
 {
-    let accepted = plan::accept(coords, x, y, p, options, out.len());
+    let accepted = plan::accept(coords, x, y, trust, p, options, out.len());
     match accepted {
         Acceptance::Refused(r) => {
             let job = blank(options);

@@ -2,7 +2,7 @@
 ghost use mathlib.Core.Path.{_≡_};
 ghost use Prim.Native.Nat.{_+_, _*_, _≤_};
 ghost use lib.ListN.{length};
-ghost use Rattle.setup.specs.Data.{dataOf};
+ghost use Rattle.setup.specs.Data.{trustedData};
 ghost use Rattle.setup.specs.Shape.{Shaped};
 ghost use Rattle.stepping.specs.Step.{isEnded, isFinal, endedSolve, freshJob, nextSweep, closeFirst, closeSecond, closeRound, isLastRound, endJob, closeJob, solvedJob, passJob, afterOutcome, stepOf};
 ghost use Rattle.stepping.specs.Sound.{Sound};
@@ -222,17 +222,17 @@ impl Job {
     }
 
     // One local solve.
-    pub fn step(self, coords: &[f64], x: &[f64], y: &[f64], out: &mut [f64]) -> Self
+    pub fn step(self, coords: &[f64], x: &[f64], y: &[f64], trust: &[f64], out: &mut [f64]) -> Self
         requires { ⌜ Sound 0 self ⌝ }
-        requires { ⌜ Shaped (self .setup) (dataOf (now coords) (now x) (now y)) ⌝ }
+        requires { ⌜ Shaped (self .setup) (trustedData (now coords) (now x) (now y) (now trust)) ⌝ }
         requires { ⌜ self .setup .n * (self .setup .p + 4) ≤ length (now out) ⌝ }
-        ensures { λ r. ⌜ (r, now (out .exit)) ≡ stepOf (dataOf (now (coords .entry)) (now (x .entry)) (now (y .entry))) (self, now (out .entry)) ⌝ }
+        ensures { λ r. ⌜ (r, now (out .exit)) ≡ stepOf (trustedData (now (coords .entry)) (now (x .entry)) (now (y .entry)) (now (trust .entry))) (self, now (out .entry)) ⌝ }
     {
         let u = self.setup;
         let stage = self.stage;
         let bandwidth = self.bandwidth;
         let i = self.sweep.location;
-        let solved = local::solve_location(coords, x, y, u, bandwidth, i);
+        let solved = local::solve_location(coords, x, y, trust, u, bandwidth, i);
         let outcome = solved.outcome;
         sweep::write_row(out, stage.is_final(), u, i, solved);
         self.after_outcome(outcome)

@@ -4,7 +4,7 @@ ghost use mathlib.Core.Path.{_≡_};
 ghost use Prim.Native.Nat.{_+_, _*_, _≤_, _<_};
 ghost use lib.ListN.{length};
 ghost use Rattle.setup.specs.Bandwidth.{Usable};
-ghost use Rattle.setup.specs.Data.{dataOf};
+ghost use Rattle.setup.specs.Data.{trustedData};
 ghost use Rattle.setup.specs.Shape.{Shaped};
 ghost use Rattle.sweep.specs.Sweep.{newSweep, addValues, nextLocation, afterSolve, rowAfter, visit, fitAllLocations, solvesOf, endingOf, RoomFor};
 ghost use Rattle.sweep.specs.Finish.{finishOf};
@@ -136,24 +136,25 @@ fn visit(
     coords: &[f64],
     x: &[f64],
     y: &[f64],
+    trust: &[f64],
     u: Setup,
     b: GwrBandwidth,
     rows: bool,
     i: usize,
     out: &mut [f64],
 ) -> Swept
-    requires { ⌜ Shaped u (dataOf (now coords) (now x) (now y)) ⌝ }
+    requires { ⌜ Shaped u (trustedData (now coords) (now x) (now y) (now trust)) ⌝ }
     requires { ⌜ Usable b ⌝ }
     requires { ⌜ (i < u .n) × (s .sweep .location ≤ i) ⌝ }
     requires { ⌜ RoomFor rows u (length (now out)) ⌝ }
-    ensures { λ r. ⌜ (r, now (out .exit)) ≡ visit rows u (dataOf (now (coords .entry)) (now (x .entry)) (now (y .entry))) b i (s, now (out .entry)) ⌝ }
+    ensures { λ r. ⌜ (r, now (out .exit)) ≡ visit rows u (trustedData (now (coords .entry)) (now (x .entry)) (now (y .entry)) (now (trust .entry))) b i (s, now (out .entry)) ⌝ }
 {
     let course = s.course;
     match course {
         Course::Stopped(_) => s,
         Course::Going => {
             let sweep = s.sweep;
-            let solved = local::solve_location(coords, x, y, u, b, i);
+            let solved = local::solve_location(coords, x, y, trust, u, b, i);
             let outcome = solved.outcome;
             write_row(out, rows, u, i, solved);
             sweep.after(outcome)
@@ -166,15 +167,16 @@ pub fn fit_all_locations(
     coords: &[f64],
     x: &[f64],
     y: &[f64],
+    trust: &[f64],
     u: Setup,
     b: GwrBandwidth,
     rows: bool,
     out: &mut [f64],
 ) -> Swept
-    requires { ⌜ Shaped u (dataOf (now coords) (now x) (now y)) ⌝ }
+    requires { ⌜ Shaped u (trustedData (now coords) (now x) (now y) (now trust)) ⌝ }
     requires { ⌜ Usable b ⌝ }
     requires { ⌜ RoomFor rows u (length (now out)) ⌝ }
-    ensures { λ r. ⌜ (r, now (out .exit)) ≡ fitAllLocations rows u (dataOf (now (coords .entry)) (now (x .entry)) (now (y .entry))) b (now (out .entry)) ⌝ }
+    ensures { λ r. ⌜ (r, now (out .exit)) ≡ fitAllLocations rows u (trustedData (now (coords .entry)) (now (x .entry)) (now (y .entry)) (now (trust .entry))) b (now (out .entry)) ⌝ }
 {
     let sweep = Sweep::new();
     let mut s = Swept {
@@ -182,7 +184,7 @@ pub fn fit_all_locations(
         sweep,
     };
     for i in 0..u.n {
-        s = visit(s, coords, x, y, u, b, rows, i, &mut *out);
+        s = visit(s, coords, x, y, trust, u, b, rows, i, &mut *out);
     }
     s
 }

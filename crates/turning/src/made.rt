@@ -2,6 +2,7 @@
 ghost use mathlib.Core.Path.{_≡_};
 ghost use Prim.Native.Nat.{_<_, _≤_, _^_};
 ghost use lib.ListN.{length};
+use crate::trusts;
 use kernel::GwrKernel;
 use setup::GwrBandwidth;
 use setup::GwrCriterion;
@@ -14,6 +15,7 @@ pub struct Case {
     pub coords: [f64; 24],
     pub x: [f64; 36],
     pub y: [f64; 12],
+    pub trust: [f64; 12],
     pub seed: u64,
 }
 
@@ -73,15 +75,17 @@ fn bandwidth_of(k: u64, seed: u64) -> GwrBandwidth {
     }
 }
 
-// Case k: every kernel and kind in turn, sizes and values from the seed.
-pub fn make_case(seed: u64, k: u64, criterion: GwrCriterion) -> Case
+// Case k: every kernel and kind in turn, sizes and values from the seed, and trusts of this sort. These are drawn from a seed of
+// their own, so that the case is otherwise the same whatever its sort.
+pub fn make_case(seed: u64, k: u64, criterion: GwrCriterion, sort: u64) -> Case
     requires { ⌜ seed < 2 ^ 31 ⌝ }
     ensures { λ r. ⌜ (r .n ≤ 10) × (r .p ≤ 2) × (r .seed < 2 ^ 31) ⌝ }
-    ensures { λ r. ⌜ (length (r .coords) ≡ 24) × (length (r .x) ≡ 36) × (length (r .y) ≡ 12) ⌝ }
+    ensures { λ r. ⌜ (length (r .coords) ≡ 24) × (length (r .x) ≡ 36) × (length (r .y) ≡ 12) × (length (r .trust) ≡ 12) ⌝ }
 {
     let mut coords = [0.0; 24];
     let mut x = [0.0; 36];
     let mut y = [0.0; 12];
+    let mut trust = [0.0; 12];
     let kernel = kernel_of(k);
     let bandwidth = bandwidth_of(k / 3, seed);
     let options = GwrOptions {
@@ -94,13 +98,16 @@ pub fn make_case(seed: u64, k: u64, criterion: GwrCriterion) -> Case
     let b = fill(&mut coords, a, draw(a, 8));
     let c = fill(&mut x, b, draw(b, 8));
     let d = fill(&mut y, c, draw(c, 8));
+    let n = draw(d, 10) + 1;
+    trusts::fill_trusts(&mut trust, sort, draw(d / 2, n) as usize, d / 2);
     Case {
-        n: draw(d, 10) as usize + 1,
+        n: n as usize,
         p: draw(next_seed(d), 3) as usize,
         options,
         coords,
         x,
         y,
+        trust,
         seed: d,
     }
 }

@@ -32,24 +32,27 @@ struct Ending {
     solves: u64,
 }
 
-// The uninterrupted fit of a case, and four lists of turns that are to end as it does.
-pub fn play_case(c: Case, t: Tally) -> Tally
+// The uninterrupted fit of a case, and four lists of turns that are to end as it does; some turns are lent bad trusts where `spoils`.
+pub fn play_case(c: Case, spoils: bool, t: Tally) -> Tally
     requires { ⌜ (c .n ≤ 10) × (c .p ≤ 2) × (c .seed < 2 ^ 31) ⌝ }
-    requires { ⌜ (length (c .coords) ≡ 24) × (length (c .x) ≡ 36) × (length (c .y) ≡ 12) ⌝ }
+    requires { ⌜ (length (c .coords) ≡ 24) × (length (c .x) ≡ 36) × (length (c .y) ≡ 12) × (length (c .trust) ≡ 12) ⌝ }
 {
     let n = c.n;
     let p = c.p;
     let coords = c.coords;
     let x = c.x;
     let y = c.y;
+    let trust = c.trust;
     let options = c.options;
     play_data(
         &coords[..2 * n],
         &x[..n * p],
         &y[..n],
+        &trust[..n],
         p,
         options,
         c.seed,
+        spoils,
         t,
     )
 }
@@ -59,24 +62,26 @@ fn play_data(
     coords: &[f64],
     x: &[f64],
     y: &[f64],
+    trust: &[f64],
     p: usize,
     options: GwrOptions,
     seed: u64,
+    spoils: bool,
     t: Tally,
 ) -> Tally
     requires { ⌜ seed < 2 ^ 31 ⌝ }
 {
     let mut rows = [0.5; 100];
-    let fit = gwr::gwr_fit(coords, x, y, p, options, &mut rows);
+    let fit = gwr::gwr_fit(coords, x, y, trust, p, options, &mut rows);
     let ending = ending_of(fit);
-    let begun = starting::begin(coords, x, y, p, options, &rows);
+    let begun = starting::begin(coords, x, y, trust, p, options, &rows);
     let started = begun.answer;
     let sum = t.fitted(ending.number);
     match started {
         Beginning::Refused(r) => sum.expect(r.number() == ending.number),
         Beginning::Ready => {
             let j = begun.job;
-            play_lists(j, coords, x, y, ending, &rows, seed, sum)
+            play_lists(j, coords, x, y, trust, ending, &rows, seed, spoils, sum)
         }
     }
 }
@@ -117,9 +122,11 @@ fn play_lists(
     coords: &[f64],
     x: &[f64],
     y: &[f64],
+    trust: &[f64],
     fit: Ending,
     rows: &[f64],
     seed: u64,
+    spoils: bool,
     t: Tally,
 ) -> Tally
     requires { ⌜ seed < 2 ^ 31 ⌝ }
@@ -128,7 +135,7 @@ fn play_lists(
     let mut sum = t;
     for k in 0..4u32 {
         at = made::next_seed(at);
-        sum = play_list(j, coords, x, y, fit, rows, at, sum);
+        sum = play_list(j, coords, x, y, trust, fit, rows, at, spoils, sum);
     }
     sum
 }
@@ -139,9 +146,11 @@ fn play_list(
     coords: &[f64],
     x: &[f64],
     y: &[f64],
+    trust: &[f64],
     fit: Ending,
     rows: &[f64],
     seed: u64,
+    spoils: bool,
     t: Tally,
 ) -> Tally
     requires { ⌜ seed < 2 ^ 31 ⌝ }
@@ -155,10 +164,10 @@ fn play_list(
     let mut steps = 0u32;
     for k in 0..40u32 {
         at = made::next_seed(at);
-        let given = lend::give_turn(played, coords, x, y, &mut out, at, k);
+        let given = lend::give_turn(played, coords, x, y, trust, &mut out, at, k, spoils);
         let turned = given.turned;
         steps = std::num::wrapping_add_u32(steps, turned.steps);
-        followed = follow(followed, coords, x, y, &mut beside, turned.steps);
+        followed = follow(followed, coords, x, y, trust, &mut beside, turned.steps);
         let seen = Seen {
             beside: compare::same_reals(&out, &beside),
             rows: compare::same_reals(&out, rows),
@@ -167,15 +176,23 @@ fn play_list(
         sum = account(given, followed, fit, sum, seen);
         played = turned.job;
     }
-    let last = job::turn(played, coords, x, y, &mut out, 4294967295);
+    let last = job::turn(played, coords, x, y, trust, &mut out, 4294967295);
     sum.stood(last, played, 20, compare::same_reals(&out, &beside))
 }
 
 // The record after so many turns of one step.
-fn follow(j: Job, coords: &[f64], x: &[f64], y: &[f64], out: &mut [f64], steps: u32) -> Job {
+fn follow(
+    j: Job,
+    coords: &[f64],
+    x: &[f64],
+    y: &[f64],
+    trust: &[f64],
+    out: &mut [f64],
+    steps: u32,
+) -> Job {
     let mut at = j;
     for k in 0..steps {
-        let turned = job::turn(at, coords, x, y, &mut *out, 1);
+        let turned = job::turn(at, coords, x, y, trust, &mut *out, 1);
         at = turned.job;
     }
     at

@@ -153,9 +153,10 @@ fn judge(j: Job, want: u32, t: Tally) -> Tally {
     let coords = [0.0, 0.0, 1.0, 0.0, 0.0, 2.0, 3.0, 3.0];
     let x = [1.0, 2.0, 4.0, 7.0];
     let y = [2.0, 3.0, 5.0, 9.0];
+    let trust = [1.0; 4];
     let mut out = [0.5; 24];
     let before = [0.5; 24];
-    let turned = job::turn(j, &coords, &x, &y, &mut out, 0);
+    let turned = job::turn(j, &coords, &x, &y, &trust, &mut out, 0);
     t.stood(turned, j, want, compare::same_reals(&out, &before))
 }
 

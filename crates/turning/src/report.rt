@@ -20,9 +20,10 @@ fn refusals(word: &[u8], counts: [u64; 100]) {
     }
 }
 
-// What stands before the counts of the guarded jobs.
-pub fn guarded() {
-    io::write_all(STDOUT_FILENO, b"guarded:\n");
+// What stands before the counts of the jobs that are named so.
+pub fn title(name: &[u8]) {
+    io::write_all(STDOUT_FILENO, name);
+    io::write_all(STDOUT_FILENO, b":\n");
 }
 
 pub fn print(t: Tally) {

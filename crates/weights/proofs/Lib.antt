@@ -1,2 +1,4 @@
+pub mod Products
 pub mod WeightSum
+pub mod Ones
 pub mod Settles

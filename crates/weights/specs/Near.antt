@@ -3,7 +3,7 @@ use Prim.Native.Nat.{ℕ, _+_, _*_, _<_}
 use mathlib.Core.Path.{_≡_}
 use mathlib.Core.List.{List}
 use lib.ListN.{getD}
-use lib.Ieee.{Float, nan}
+use lib.Ieee.{Float, nan, binary64, mul}
 use Rattle.real.specs.Fold.{range}
 use Rattle.real.specs.Reals.{zero64}
 use Rattle.kernel.specs.declared.GwrKernel.{GwrKernel}
@@ -14,9 +14,13 @@ use Rattle.weights.specs.Weights.{weighStep}
 abbrev pub nearDistance : List Float → Float → Float → ℕ → Float
 nearDistance coords east north j = distanceOf east north (getD coords (2 * j) nan) (getD coords (2 * j + 1) nan)
 
+-- the weight of observation j with its trust
+abbrev pub nearWeight : GwrKernel → List Float → List Float → Float → Float → Float → ℕ → Float
+nearWeight k coords trust east north b j = mul binary64 (weightOf k (nearDistance coords east north j) b) (getD trust j nan)
+
 -- the weights of n observations, from w on, and their sum
-abbrev pub nearWeights : GwrKernel → List Float → ℕ → Float → Float → Float → List Float → List Float × Float
-nearWeights k coords n east north b w = range (weighStep (λ j. weightOf k (nearDistance coords east north j) b)) 0 n (w, zero64)
+abbrev pub nearWeights : GwrKernel → List Float → List Float → ℕ → Float → Float → Float → List Float → List Float × Float
+nearWeights k coords trust n east north b w = range (weighStep (nearWeight k coords trust east north b)) 0 n (w, zero64)
 
 -- y holds the distances of the first n observations
 pub record Settled (coords : List Float) (n : ℕ) (east north : Float) (y : List Float) : Type 0 where

@@ -29,9 +29,10 @@ fn settle_all(coords: &[f64], n: usize, east: f64, north: f64, y: &mut [f64; 512
     }
 }
 
-// The weight of each observation, in order, into w; answers their sum.
+// The weight of each observation, its trust included, in order, into w; answers their sum.
 pub fn weigh_all(
     coords: &[f64],
+    trust: &[f64],
     n: usize,
     kernel: GwrKernel,
     east: f64,
@@ -39,15 +40,15 @@ pub fn weigh_all(
     b: f64,
     w: &mut [f64; 512],
 ) -> f64
-    requires { ⌜ (length (now coords) ≡ 2 * n) × (n ≤ 512) ⌝ }
-    ensures { λ r. ⌜ (now (w .exit), r) ≡ nearWeights kernel (now (coords .entry)) n east north b (now (w .entry)) ⌝ }
+    requires { ⌜ (length (now coords) ≡ 2 * n) × (length (now trust) ≡ n) × (n ≤ 512) ⌝ }
+    ensures { λ r. ⌜ (now (w .exit), r) ≡ nearWeights kernel (now (coords .entry)) (now (trust .entry)) n east north b (now (w .entry)) ⌝ }
 {
     let mut y = [0.0; 512];
     guess_all(coords, n, east, north, &mut y);
     settle_all(coords, n, east, north, &mut y);
     let mut sum = 0.0;
     for j in 0..n {
-        let v = kernel.weight(y[j], b);
+        let v = kernel.weight(y[j], b) * trust[j];
         w[j] = v;
         sum = sum + v;
     }
@@ -57,6 +58,7 @@ pub fn weigh_all(
 // The same, for the reach of the kernel at bandwidth b: no root is taken beyond it.
 pub fn weigh_within(
     coords: &[f64],
+    trust: &[f64],
     n: usize,
     kernel: GwrKernel,
     east: f64,
@@ -65,14 +67,14 @@ pub fn weigh_within(
     reach: f64,
     w: &mut [f64; 512],
 ) -> f64
-    requires { ⌜ (length (now coords) ≡ 2 * n) × (n ≤ 512) ⌝ }
+    requires { ⌜ (length (now coords) ≡ 2 * n) × (length (now trust) ≡ n) × (n ≤ 512) ⌝ }
     requires { ⌜ Reach kernel b reach ⌝ }
-    ensures { λ r. ⌜ (now (w .exit), r) ≡ nearWeights kernel (now (coords .entry)) n east north b (now (w .entry)) ⌝ }
+    ensures { λ r. ⌜ (now (w .exit), r) ≡ nearWeights kernel (now (coords .entry)) (now (trust .entry)) n east north b (now (w .entry)) ⌝ }
 {
     let mut sum = 0.0;
     for j in 0..n {
         let s = kernel::squares(east, north, coords[2 * j], coords[2 * j + 1]);
-        let v = kernel.weight_within(s, b, reach);
+        let v = kernel.weight_within(s, b, reach) * trust[j];
         w[j] = v;
         sum = sum + v;
     }

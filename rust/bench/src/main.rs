@@ -9,9 +9,13 @@ mod accuracy;
 mod fits;
 #[cfg(test)]
 mod guards;
+#[cfg(test)]
+mod numbers;
 mod single;
 mod stack;
 mod timing;
+#[cfg(test)]
+mod trusts;
 mod turns;
 #[cfg(test)]
 mod walks;

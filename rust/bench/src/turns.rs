@@ -14,6 +14,8 @@ mod linked {
             x_len: usize,
             y: *const f64,
             y_len: usize,
+            trust: *const f64,
+            trust_len: usize,
             p: usize,
             kernel: u32,
             out: *mut f64,
@@ -24,11 +26,12 @@ mod linked {
     }
 }
 
-/// A job's numbers, and room for its rows.
+/// A job's numbers, each observation fully trusted, and room for its rows.
 pub struct Lent {
     coords: Vec<f64>,
     x: Vec<f64>,
     y: Vec<f64>,
+    trust: Vec<f64>,
     p: usize,
     kernel: u32,
     out: Vec<f64>,
@@ -41,6 +44,7 @@ impl Lent {
             coords: reals(&job.coords),
             x: reals(&job.x),
             y: reals(&job.y),
+            trust: job.full_trusts(),
             p: p as usize,
             kernel,
             out: vec![0.0; (n * (p + 4)) as usize],
@@ -59,6 +63,8 @@ impl Lent {
                 self.x.len(),
                 self.y.as_ptr(),
                 self.y.len(),
+                self.trust.as_ptr(),
+                self.trust.len(),
                 self.p,
                 self.kernel,
                 self.out.as_mut_ptr(),

@@ -27,7 +27,7 @@ extern "C" {
 #define ZESCOLUMBA_SEARCHED_DISTANCE 2
 #define ZESCOLUMBA_SEARCHED_COUNT 3
 
-/* Fits n observations (1 to 512) with p predictors each (0 to 7).
+/* Fits n observations (1 to 512) with p predictors each (0 to 7). Every observation is fully trusted (a trust of 1).
  *
  * coords     2n numbers, easting then northing           x  n * p numbers, row by row
  * y          n responses                                 out  at least n * (p + 4) numbers

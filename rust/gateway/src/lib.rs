@@ -172,7 +172,7 @@ pub struct GwrResult {
 }
 
 /// Fits a regression at each observation, with the others weighted by their distance. The intercept is added: `x` has the
-/// predictors only, one row for each observation.
+/// predictors only, one row for each observation. Every observation is fully trusted (a trust of 1).
 ///
 /// # Errors
 ///

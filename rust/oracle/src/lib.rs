@@ -1,10 +1,11 @@
-//! The other side of the comparison: what 000 answers to a job of the byte calls, where 000 has an answer, and what 01 says
-//! where it has none (limits, byte lengths, unknown numbers, output too short). 000 has a default count of its own, so it is
-//! handed the count that 02 says an unsearched count 0 becomes ([`default_count`]).
+//! The other side of the comparison: what 000 answers to a job of the byte calls, where 000 has an answer, and what 01 and 02 say
+//! where it has none (limits, byte lengths, unknown numbers, output too short, trusts that are none). 000 has a default count of
+//! its own, so it is handed the count that 02 says an unsearched count 0 becomes ([`default_count`]).
 //!
-//! 000 is taken at build time from the folder of source documents (see build.rs), three times: with 01's steps for exp and ln
-//! ([`steps`]), which is what is compared, the same with the line that 02's guarded criterion adds ([`guarded`]), and with the
-//! platform's exp and ln ([`platform`]), for times. Without it [`AVAILABLE`] is false.
+//! 000 is taken at build time from the folder of source documents (see build.rs), five times: with 01's steps for exp and ln
+//! ([`steps`]), which is what is compared, the same with the line that 02's guarded criterion adds ([`guarded`]), each of the two
+//! with the product that 02's trusts add ([`trusted`], [`trusted_guarded`]), and with the platform's exp and ln ([`platform`]), for
+//! times. Without it [`AVAILABLE`] is false.
 
 #![forbid(unsafe_code)]
 
@@ -14,6 +15,7 @@ pub mod listings;
 pub mod stored;
 #[cfg_attr(not(gwr_source), allow(dead_code))]
 mod support;
+pub mod trusts;
 
 pub use steps::{fit, weight};
 pub use support::exp_steps;
@@ -127,6 +129,11 @@ impl Job {
         self.coords.len() / 16
     }
 
+    /// A trust of 1 for each observation.
+    pub fn full_trusts(&self) -> Vec<f64> {
+        vec![1.0; self.n()]
+    }
+
     /// Whether it asks for the default count.
     fn takes_default(&self) -> bool {
         (self.kind, self.bandwidth) == (1, 0)
@@ -184,8 +191,8 @@ impl Job {
         (coords, rows)
     }
 
-    /// 01's refusals 18 and 1 to 6, of numbers and byte lengths; 000 has no bytes, and no limits.
-    fn refused_by_length(&self) -> Option<u32> {
+    /// 01's refusals 18 and 1 to 6, of numbers and byte lengths; 000 has no bytes, and no limits. 6 is for the number of trusts too.
+    fn refused_by_length(&self, trusts: usize) -> Option<u32> {
         let n = self.n();
         let p = usize::try_from(self.p).ok().filter(|p| *p <= 7);
         match p {
@@ -195,49 +202,65 @@ impl Job {
             _ if n > 512 => Some(3),
             None => Some(4),
             Some(p) if self.x.len() != 8 * n * p => Some(5),
-            Some(_) if self.y.len() != 8 * n => Some(6),
+            Some(_) if self.y.len() != 8 * n || trusts != n => Some(6),
             Some(_) => None,
         }
     }
 
-    /// 01's refusal 13, which stands between 10 and 11.
+    /// 01's refusal 13.
     fn short_of_room(&self) -> bool {
         self.summary_len < 24 || self.out_len < 8 * self.n() * (self.p as usize + 4)
     }
 
+    /// The refusal of a job of right lengths before its first solve: 000's own, and between its 10 and 11 those that it does not
+    /// know.
+    fn refused_before_solving(&self, trusts: &[f64], of_000: u32) -> Option<u32> {
+        match of_000 {
+            1..=10 => Some(of_000),
+            _ if !trusts.iter().all(|t| (0.0..=1.0).contains(t)) => Some(26),
+            _ if self.short_of_room() => Some(13),
+            11 | 12 => Some(of_000),
+            _ => None,
+        }
+    }
+
     /// What the fit call must answer, and every byte that it must leave. Only where [`AVAILABLE`].
     pub fn expected(&self) -> Answer {
-        self.expected_by(steps::fit)
+        self.expected_by(steps::fit, &self.full_trusts())
     }
 
     /// The same of a guarded fit.
     pub fn expected_guarded(&self) -> Answer {
-        self.expected_by(guarded::fit)
+        self.expected_by(guarded::fit, &self.full_trusts())
+    }
+
+    /// What a fit of observations that are trusted so must answer, in the words of the fit call, which knows no trusts.
+    pub fn expected_trusted(&self, trusts: &[f64]) -> Answer {
+        support::with_trusts(trusts, || self.expected_by(trusted::fit, trusts))
+    }
+
+    /// The same of a guarded fit.
+    pub fn expected_trusted_guarded(&self, trusts: &[f64]) -> Answer {
+        support::with_trusts(trusts, || self.expected_by(trusted_guarded::fit, trusts))
     }
 
     /// The same by one of the readings of 000.
-    fn expected_by(&self, fit: fn(&Job) -> Fitted) -> Answer {
+    fn expected_by(&self, fit: fn(&Job) -> Fitted, trusts: &[f64]) -> Answer {
         let mut answer = Answer {
             number: 0,
             out: vec![FILL; self.out_len],
             summary: vec![FILL; self.summary_len],
         };
-        if let Some(number) = self.refused_by_length() {
+        if let Some(number) = self.refused_by_length(trusts.len()) {
             answer.number = number;
             return answer;
         }
         let fitted = fit(self);
+        if let Some(number) = self.refused_before_solving(trusts, fitted.number) {
+            answer.number = number;
+            return answer;
+        }
         answer.number = fitted.number;
-        if (1..=10).contains(&answer.number) {
-            return answer;
-        }
-        if self.short_of_room() {
-            answer.number = 13;
-            return answer;
-        }
-        if matches!(answer.number, 11 | 12) {
-            return answer;
-        }
         for (place, v) in answer.out.chunks_exact_mut(8).zip(&fitted.rows) {
             place.copy_from_slice(&bits(*v).to_le_bytes());
         }
@@ -381,6 +404,16 @@ side!(
     /// The same, guarded.
     guarded,
     "/guarded.rs"
+);
+side!(
+    /// 000 with 01's steps, and each weight times the trust that [`Job::expected_trusted`] lends: without one, a solve panics.
+    trusted,
+    "/trusted.rs"
+);
+side!(
+    /// The same, guarded.
+    trusted_guarded,
+    "/trusted_guarded.rs"
 );
 side!(
     /// 000 with the platform's exp and ln.

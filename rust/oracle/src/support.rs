@@ -3,7 +3,7 @@
 use std::cell::RefCell;
 use std::ops::{Index, IndexMut};
 
-/// An error of 000, as the refusal number that 01 gives it.
+/// An error of 000, as the refusal number that 01 or 02 gives it.
 #[derive(Debug, Clone, Copy, PartialEq, Eq)]
 pub struct AnalyticsError(pub u32);
 
@@ -14,7 +14,7 @@ pub type Result<T> = std::result::Result<T, AnalyticsError>;
 fn number(message: &str, numbers: &[(&str, u32)]) -> AnalyticsError {
     match numbers.iter().find(|(text, _)| message.contains(text)) {
         Some(&(_, number)) => AnalyticsError(number),
-        None => panic!("000 gave an error that 01 has no number for: {message}"),
+        None => panic!("000 gave an error that has no number: {message}"),
     }
 }
 
@@ -50,10 +50,11 @@ impl AnalyticsError {
     }
 
     pub fn numerical_instability(message: impl Into<String>) -> Self {
-        // A weight sum that is not above zero has no number: it never occurs.
+        // 27 is 02's: without trusts a location's own weight is 1, and the sum is above zero.
         number(
             &message.into(),
             &[
+                ("kernel weights", 27),
                 ("matrix inverse", 15),
                 ("coefficients", 16),
                 ("standard deviation", 17),
@@ -138,6 +139,7 @@ pub struct Record {
 
 thread_local! {
     static RECORD: RefCell<Record> = RefCell::default();
+    static TRUSTS: RefCell<Vec<f64>> = const { RefCell::new(Vec::new()) };
 }
 
 /// Counts a local solve; that of location 0 begins a sweep.
@@ -161,6 +163,19 @@ pub fn end_solve(beta: &[f64], predicted: f64, residual: f64, local_r2: f64) {
 /// What was recorded since the last call.
 pub fn take_record() -> Record {
     RECORD.take()
+}
+
+/// Lends trusts to what runs: 000 has no parameter for them.
+pub fn with_trusts<T>(trusts: &[f64], run: impl FnOnce() -> T) -> T {
+    TRUSTS.set(trusts.to_vec());
+    let answer = run();
+    TRUSTS.take();
+    answer
+}
+
+/// The trust of observation j. Where none is lent, there is none to take for it.
+pub fn trust(j: usize) -> f64 {
+    TRUSTS.with_borrow(|trusts| trusts[j])
 }
 
 /// exp of a number that is not above zero, by the steps of 01.

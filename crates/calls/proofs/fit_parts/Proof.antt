@@ -3,7 +3,7 @@ use borrow.Author.Needs.{needs}
 use native.Mathlib.Omega.{arith}
 use native.Mathlib.Nat.{mul-le-mul}
 use Rattle.real.specs.Reals.{zero64}
-use Rattle.calls.proofs.Bytes.{take-replicate, decoded, part-long, zeros-long}
+use Rattle.calls.proofs.Bytes.{take-replicate, decoded, part-few, part-long, zeros-long}
 use Rattle.calls.proofs.Answers.{room-small, offered, parts-is}
 use Rattle.calls.proofs.fit_parts.Statement.{statement}
 use Rattle.calls.proofs.fit_parts.Tie as tie
@@ -30,7 +30,9 @@ slice-aggregate-fitted-bytes-4 : tie.Need-slice-aggregate-fitted-bytes-4
 slice-aggregate-fitted-bytes-4 c = zeros-long _ 5632 zero64 (room-small _ _ _ _ _ (c .before .before .before .before .room-of .ensures) (c .before .before .before .before .before .before .before .before .before .before .before .before .before .before .before .before .before .before .before .pre .few) (c .before .before .before .before .before .before .before .before .before .before .before .before .before .before .before .before .before .before .before .pre .narrow))
 
 fitted-bytes-requires : tie.Need-fitted-bytes-requires
-fitted-bytes-requires c κs = (c .before .before .before .before .before .before .before .before .before .before .before .before .before .before .before .before .before .before .before .before .before .pre .narrow, offered _ _ _ _ _ (c .before .before .before .before .before .before .room-of .ensures) _ (zeros-long _ 5632 zero64 (room-small _ _ _ _ _ (c .before .before .before .before .before .before .room-of .ensures) (c .before .before .before .before .before .before .before .before .before .before .before .before .before .before .before .before .before .before .before .before .before .pre .few) (c .before .before .before .before .before .before .before .before .before .before .before .before .before .before .before .before .before .before .before .before .before .pre .narrow))))
+fitted-bytes-requires c κs =
+    let lengths = c .before .before .before .before .before .before .before .before .before .before .before .before .before .before .before .before .before .before .before .before .before .pre in
+    (search (needs, lengths .few, part-few), (lengths .narrow, offered _ _ _ _ _ (c .before .before .before .before .before .before .room-of .ensures) _ (zeros-long _ 5632 zero64 (room-small _ _ _ _ _ (c .before .before .before .before .before .before .room-of .ensures) (lengths .few) (lengths .narrow)))))
 
 returns : tie.Need-returns
 returns c = parts-is _ _ _ _ _ _ _ _ _ _ _ _ _ (decoded _ _ _ _ (c .before .before .before .before .before .before .before .before .before .before .before .before .before .before .before .before .before .before .before .before .decode .ensures)) (decoded _ _ _ _ (c .before .before .before .before .before .before .before .before .before .before .before .before .before .before .before .before .before .decode2 .ensures)) (decoded _ _ _ _ (c .before .before .before .before .before .before .before .before .before .before .before .before .before .before .decode3 .ensures)) (take-replicate _ 5632 zero64 (room-small _ _ _ _ _ (c .before .before .before .before .before .before .before .before .before .before .before .before .room-of .ensures) (c .before .before .before .before .before .before .before .before .before .before .before .before .before .before .before .before .before .before .before .before .before .before .before .before .before .before .before .pre .few) (c .before .before .before .before .before .before .before .before .before .before .before .before .before .before .before .before .before .before .before .before .before .before .before .before .before .before .before .pre .narrow))) (c .before .before .before .before .before .before .before .before .before .before .before .before .room-of .ensures) (c .before .before .before .before .before .fitted-bytes .ensures)

@@ -5,7 +5,7 @@ use mathlib.Core.Logic.{_⊎_}
 use borrow.Author.Tests.{leb-true, le-leb}
 use lib.Dec.{T}
 use Rattle.claims.specs.Words.{Means, Criterion, Stage, First, Second, Round, Final, Ended, isEnded}
-use Rattle.claims.proofs.Laws.{never, not-means, and-means, or-means, equal-means, below-means, inverse-not-finite-means, coefficient-not-finite-means, not-finite-means, unusable-distance-means, no-distance-range-means, lengths-fit-means, kinds-means, distance-means, unknown-means}
+use Rattle.claims.proofs.Laws.{never, not-means, and-means, or-means, equal-means, below-means, weightless-means, inverse-not-finite-means, coefficient-not-finite-means, not-finite-means, trust-out-of-range-means, unusable-distance-means, no-distance-range-means, lengths-fit-means, kinds-means, distance-means, unknown-means}
 use Rattle.claims.specs.Meanings.{Meanings}
 
 itself : (b : Bool) → Means b (b ≡ true)
@@ -36,8 +36,10 @@ meanings =
       either = λ a b. or-means a b (itself a) (itself b);
       not-finite = not-finite-means;
       negative = distance-means;
+      trusts = trust-out-of-range-means;
       unusable = unusable-distance-means;
       nothing = no-distance-range-means;
+      weightless = weightless-means;
       inverse = inverse-not-finite-means;
       coefficients = coefficient-not-finite-means;
       unknown = unknown-means;

@@ -36,7 +36,7 @@ StageMet (Ended c) = CriterionMet c
 
 aic-met : (u : Setup) (q t : Float) → CriterionMet (correctedAic u q t)
 unfolding correctedAic
-aic-met u q t = either CriterionMet (finite (deviation rounded root (fromCount (u .n)) q)) _ _ tt (inr (inr (inr refl)))
+aic-met u q t = either CriterionMet (finite (deviation rounded root (fromCount (u .n)) q)) _ _ tt (inr (inr (inr (inr refl))))
 
 close-met : (x : Stage) (j : Job) (c : Criterion) → CriterionMet c → StageMet (j .stage) → StageMet (closeAt x j c .stage)
 close-met First j c m h = tt

@@ -1,27 +1,24 @@
--- `estimate::fit_coefficients` meets its contract: by whether elimination met a pivot that is too small.
+-- `estimate::fit_coefficients` meets its contract: by whether the weights sum to more than zero.
 use borrow.Author.Needs.{needs}
 use mathlib.Core.Path.{sym}
-use Rattle.estimate.specs.Estimate.{eliminatedOf, fitCoefficients}
+use Rattle.estimate.specs.Estimate.{fitCoefficients}
 use Rattle.estimate.proofs.fit_coefficients.Statement.{statement}
 use Rattle.estimate.proofs.fit_coefficients.Tie as tie
 
-returns : tie.Need-returns
-unfolding eliminatedOf fitCoefficients
-returns c = sym (rw (← c .before .before .before .before .before .before .equations-of .ensures, ← c .before .before .before .invert-matrix .ensures, c .before .before .if1 .taken, ← c .from-inverse .ensures))
+coefficients-under-requires : tie.Need-coefficients-under-requires
+coefficients-under-requires c κs = search needs
 
--- A is singular
+returns : tie.Need-returns
+unfolding fitCoefficients
+returns c = sym (rw (c .before .before .if1 .taken, ← c .coefficients-under .ensures))
+
+refused-with-requires : tie.Need-refused-with-requires
+refused-with-requires c κs = search needs
+
+-- nothing weighs
 returns-2 : tie.Need-returns-2
-unfolding eliminatedOf fitCoefficients
-returns-2 c = sym (rw (← c .before .before .before .before .before .equations-of .ensures, ← c .before .before .invert-matrix .ensures, c .before .if1 .left, ← c .refused-with .ensures))
+unfolding fitCoefficients
+returns-2 c = sym (rw (c .before .before .if1 .left, ← c .refused-with .ensures))
 
 pub fit-coefficients-spec : {M : Type 1} → statement M
-fit-coefficients-spec =
-    tie.close
-    (tie.spec
-    (λ c. search needs)
-    (λ c κs. search needs)
-    (λ c κs. search needs)
-    (λ c κs. search needs)
-    (λ c κs. search needs)
-    returns
-    returns-2)
+fit-coefficients-spec = tie.close (tie.spec coefficients-under-requires returns refused-with-requires returns-2)

@@ -9,14 +9,14 @@ use Rattle.gwr.proofs.final_of.Tie as tie
 solves-requires : tie.Need-solves-requires
 solves-requires c κs =
     let s = c .before .before .before .before in
-    let few = s .before .before .before .before .before .before .pre .0 .sized .few in
+    let few = s .before .before .before .before .before .before .before .pre .0 .sized .few in
     let h = made-few _ _ _ _ _ _ _ (s .fit-all-locations .ensures) in
     omega (arith, h .0, few)
 
 add-finish-of : tie.Need-add-finish-of
 add-finish-of c =
     let s = c .before .before .before .before .before in
-    let a = s .before .before .before .before .before .before .pre in
+    let a = s .before .before .before .before .before .before .before .pre in
     let h = solves-made _ _ _ _ _ _ (a .0 .sized .few) (s .fit-all-locations .ensures) _ (c .solves .ensures) in
     omega (arith, h, a .1 .1 .1)
 

@@ -7,7 +7,7 @@ use Rattle.gwr.proofs.sought_of.Tie as tie
 
 final-of-requires : tie.Need-final-of-requires
 final-of-requires c κs =
-    let a = c .before .before .before .before .before .before .pre in
+    let a = c .before .before .before .before .before .before .before .pre in
     let m = optimum-made _ _ (a .0 .sized) _ _ _ (c .before .optimize-bandwidth .ensures) in
     (a .0, (m .0, (a .1, m .1)))
 

@@ -26,7 +26,7 @@ enum-told-2 : tie.Need-enum-told-2
 enum-told-2 c = search needs
 
 check-output-requires : tie.Need-check-output-requires
-check-output-requires c κs = let s = shape-counts _ _ _ _ (sym (c .before .before .before .before .before .check-shape .ensures) ∙ c .before .before .before .enum-told .given .1) in (s .few, s .narrow)
+check-output-requires c κs = let s = shape-counts _ _ _ _ _ (sym (c .before .before .before .before .before .check-shape .ensures) ∙ c .before .before .before .enum-told .given .1) in (s .few, s .narrow)
 
 returns : tie.Need-returns
 unfolding inputTests

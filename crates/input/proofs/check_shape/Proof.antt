@@ -34,16 +34,20 @@ returns-6 : tie.Need-returns-6
 unfolding shapeTests
 returns-6 c = search tests
 
-add-if7 : tie.Need-add-if7
-add-if7 c = search needs
-
 returns-7 : tie.Need-returns-7
 unfolding shapeTests
 returns-7 c = search tests
 
+add-if8 : tie.Need-add-if8
+add-if8 c = search needs
+
 returns-8 : tie.Need-returns-8
 unfolding shapeTests
 returns-8 c = search tests
+
+returns-9 : tie.Need-returns-9
+unfolding shapeTests
+returns-9 c = search tests
 
 pub check-shape-spec : {M : Type 1} → statement M
 check-shape-spec =
@@ -56,6 +60,7 @@ check-shape-spec =
     mul-if5
     returns-5
     returns-6
-    add-if7
     returns-7
-    returns-8)
+    add-if8
+    returns-8
+    returns-9)

@@ -6,17 +6,17 @@ use mathlib.Core.List.{List}
 use lib.ListN.{length}
 use lib.Ieee.{Float}
 use Rattle.real.proofs.Fold.{Range, none, more, done}
-use Rattle.setup.specs.Data.{dataOf}
+use Rattle.setup.specs.Data.{trustedData}
 use Rattle.job.specs.declared.Turned.{Turned}
 use Rattle.measured.specs.Turns.{turnBy, playOf}
 use Rattle.measured.proofs.play.Statement.{statement}
 use Rattle.measured.proofs.play.Tie as tie
 
 abbrev Inv-loop : tie.InvT-loop
-Inv-loop coords x y out₀ allowance turns k₀ i₀ out k i = Range (turnBy (dataOf coords x y) allowance) (k₀, out₀) 0 turns i (k, out) × (length out ≡ length out₀)
+Inv-loop coords x y trust out₀ allowance turns k₀ i₀ out k i = Range (turnBy (trustedData coords x y trust) allowance) (k₀, out₀) 0 turns i (k, out) × (length out ≡ length out₀)
 
 abbrev μ-loop : tie.MeasureT-loop
-μ-loop coords x y out₀ allowance turns k₀ i₀ out k i = turns - i
+μ-loop coords x y trust out₀ allowance turns k₀ i₀ out k i = turns - i
 
 pub play-spec : {M : Type 1} → statement M
 unfolding turnBy playOf

@@ -5,10 +5,10 @@ use Rattle.turning.proofs.play_all.Statement.{statement}
 use Rattle.turning.proofs.play_all.Tie as tie
 
 abbrev Inv-loop : tie.InvT-loop
-Inv-loop criterion t₀ seed₀ k₀ t seed k = (k ≤ 400) × (seed < 2 ^ 31)
+Inv-loop criterion jobs trusted t₀ seed₀ k₀ t seed k = (k ≤ jobs) × (seed < 2 ^ 31)
 
 abbrev μ-loop : tie.MeasureT-loop
-μ-loop criterion t₀ seed₀ k₀ t seed k = 400 - k
+μ-loop criterion jobs trusted t₀ seed₀ k₀ t seed k = jobs - k
 
 pub play-all-spec : {M : Type 1} → statement M
 play-all-spec =
@@ -16,6 +16,7 @@ play-all-spec =
     (tie.spec Inv-loop μ-loop
     (λ c κs. search needs)
     (λ c. search needs)
+    (λ c κs. search needs)
     (λ c κs. search needs)
     (λ c κs. search needs)
     (λ c κs. search needs)

@@ -8,15 +8,15 @@ use lib.Ieee.{Float}
 use Rattle.real.specs.Reals.{zero64}
 use Rattle.kernel.proofs.Reaches.{reaches}
 use Rattle.setup.specs.declared.Setup.{Setup}
-use Rattle.setup.specs.Data.{Data}
+use Rattle.setup.specs.Data.{trustedData}
 use Rattle.weights.specs.Weights.{weightFrom, weightsFrom}
 use Rattle.weights.specs.Near.{nearWeights}
 use Rattle.weights.proofs.weigh.Statement.{statement}
 use Rattle.weights.proofs.weigh.Tie as tie
 
-over-zeros : (u : Setup) (d : Data) (east north b : Float) (w : List Float) (r : List Float × Float) → w ≡ replicate 512 zero64 → r ≡ nearWeights (u .options .kernel) (d .coords) (u .n) east north b w → r ≡ weightsFrom u d east north b
+over-zeros : (u : Setup) (coords x y trust : List Float) (east north b : Float) (w : List Float) (r : List Float × Float) → w ≡ replicate 512 zero64 → r ≡ nearWeights (u .options .kernel) coords trust (u .n) east north b w → r ≡ weightsFrom u (trustedData coords x y trust) east north b
 unfolding weightsFrom weightFrom
-over-zeros u d east north b w r zeros e = e ∙ rw zeros
+over-zeros u coords x y trust east north b w r zeros e = e ∙ rw zeros
 
 weigh-within-requires : tie.Need-weigh-within-requires
 weigh-within-requires c κs = search (needs, reaches)

@@ -1,7 +1,7 @@
 -- `plan::accept` meets its contract, case by case.
 use borrow.Author.Needs.{needs}
 use mathlib.Core.Path.{sym, _∙_}
-use Rattle.setup.specs.Data.{dataOf}
+use Rattle.setup.specs.Data.{trustedData}
 use Rattle.checks.proofs.Tests.{read}
 use Rattle.plan.proofs.Planned.{accept-refused, accept-passed}
 use Rattle.input.proofs.Accepted.{input-accepted}
@@ -18,7 +18,7 @@ enum-told : tie.Need-enum-told
 enum-told c = search needs
 
 plan-options-requires : tie.Need-plan-options-requires
-plan-options-requires c κs = let a = input-accepted (dataOf _ _ _) _ _ _ (sym (c .before .before .check-input .ensures) ∙ c .enum-told .given .1) .shaped in (a .places, a .sized)
+plan-options-requires c κs = let a = input-accepted (trustedData _ _ _ _) _ _ _ (sym (c .before .before .check-input .ensures) ∙ c .enum-told .given .1) .shaped in (a .places, a .sized)
 
 returns : tie.Need-returns
 returns c = search (accept-refused, read)

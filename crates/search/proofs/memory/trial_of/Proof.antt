@@ -11,20 +11,20 @@ use Rattle.search.proofs.memory.trial_of.Tie as tie
 returns : tie.Need-returns
 returns c =
     let s = c .before .before .before .before in
-    let a = s .before .before .before .before .before .before .before in
-    (recalled _ _ _ (subst T (sym (a .good .1 .1 .1 .1 .0 .1)) tt) _ _ (s .before .before .before .bandwidth-at .ensures) (s .before .before .key-of .ensures) (a .pre .1) _ (c .before .before .if1 .taken) (c .before .if2 .taken), a .pre .1)
+    let a = s .before .before .before .before .before .before .before .before in
+    (recalled _ _ _ (subst T (sym (a .good .1 .1 .1 .1 .1 .0 .1)) tt) _ _ (s .before .before .before .bandwidth-at .ensures) (s .before .before .key-of .ensures) (a .pre .1) _ (c .before .before .if1 .taken) (c .before .if2 .taken), a .pre .1)
 
 evaluate-aicc-requires : tie.Need-evaluate-aicc-requires
 evaluate-aicc-requires c κs =
     let b = c .before .before .before .before .before in
-    let shaped = b .before .before .before .before .pre .0 in
+    let shaped = b .before .before .before .before .before .pre .0 in
     (shaped, subst⁻¹ Usable (b .bandwidth-at .ensures) (bandwidth-usable _ (shaped .sized) _))
 
 returns-2 : tie.Need-returns-2
 returns-2 c =
     let s = c .before .before .before in
-    let a = s .before .before .before .before .before .before .before in
-    let fit = subst T (sym (a .good .1 .1 .1 .1 .0 .1)) tt in
+    let a = s .before .before .before .before .before .before .before .before in
+    let fit = subst T (sym (a .good .1 .1 .1 .1 .1 .0 .1)) tt in
     let hb = s .before .before .before .bandwidth-at .ensures in
     let hk = s .before .before .key-of .ensures in
     let t = c .evaluate-aicc .ensures in

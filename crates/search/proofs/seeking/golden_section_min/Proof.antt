@@ -5,7 +5,7 @@ use denote.Ref.{now}
 use mathlib.Core.Path.{ap, subst⁻¹, _∙_}
 use native.Mathlib.Omega.{arith}
 use Rattle.real.proofs.Fold.{Range, none, more, done}
-use Rattle.setup.specs.Data.{dataOf}
+use Rattle.setup.specs.Data.{trustedData}
 use Rattle.golden.specs.Golden.{startOf}
 use Rattle.search.specs.declared.Search.{Search}
 use Rattle.search.specs.Memo.{Remembered}
@@ -16,20 +16,20 @@ use Rattle.search.proofs.seeking.golden_section_min.Statement.{statemen
 use Rattle.search.proofs.seeking.golden_section_min.Tie as tie
 
 abbrev Inv-loop : tie.InvT-loop
-Inv-loop coords x y u lo hi tried₀ scores₀ s₀ r₀ tried scores s r =
-    let d = dataOf coords x y in
+Inv-loop coords x y trust u lo hi tried₀ scores₀ s₀ r₀ tried scores s r =
+    let d = trustedData coords x y trust in
     Range (roundOf u d) (openedOf u d (startOf lo hi)) 0 100 r s × Remembered u d tried scores
 
 abbrev μ-loop : tie.MeasureT-loop
-μ-loop coords x y u lo hi tried₀ scores₀ s₀ r₀ tried scores s r = 100 - r
+μ-loop coords x y trust u lo hi tried₀ scores₀ s₀ r₀ tried scores s r = 100 - r
 
 opened-of-requires : tie.Need-opened-of-requires Inv-loop μ-loop
-opened-of-requires c κs = (c .before .before .before .before .before .before .pre, forgotten _ _ _)
+opened-of-requires c κs = (c .before .before .before .before .before .before .before .pre, forgotten _ _ _)
 
 loop-holds : tie.Need-loop-holds Inv-loop μ-loop
 loop-holds c =
-    let a = c .before .before .before .before .before .before .before .args in
-    let d = dataOf (now (a .coords)) (now (a .x)) (now (a .y)) in
+    let a = c .before .before .before .before .before .before .before .before .args in
+    let d = trustedData (now (a .coords)) (now (a .x)) (now (a .y)) (now (a .trust)) in
     let e = c .opened-of .ensures in
     let opened = e .0 ∙ ap (openedOf (a .u) d) (c .before .before .before .start .ensures) in
     (subst⁻¹ (λ (s : Search). Range (roundOf (a .u) d) (openedOf (a .u) d (startOf (a .lo) (a .hi))) 0 100 0 s) opened (none (omega arith)), e .1)
@@ -37,7 +37,7 @@ loop-holds c =
 round-of-requires : tie.Need-round-of-requires Inv-loop μ-loop
 round-of-requires c κs =
     let l = c .before .before .before in
-    let shaped = l .before .before .before .before .before .before .before .before .pre in
+    let shaped = l .before .before .before .before .before .before .before .before .before .pre in
     (shaped, (l .loop .inv .1, rounds-made _ _ (shaped .sized .few) _ _ _ (l .loop .inv .0 .is) (l .loop .inv .0 .high)))
 
 loop-again : tie.Need-loop-again Inv-loop μ-loop

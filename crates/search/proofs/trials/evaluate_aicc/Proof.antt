@@ -9,7 +9,7 @@ use Rattle.search.proofs.trials.evaluate_aicc.Tie as tie
 solves-requires : tie.Need-solves-requires
 solves-requires c κs =
     let s = c .before .before .before in
-    let few = s .before .before .before .before .before .pre .0 .sized .few in
+    let few = s .before .before .before .before .before .before .pre .0 .sized .few in
     let h = made-few _ _ _ _ _ _ _ (s .fit-all-locations .ensures) in
     omega (arith, h .0, few)
 

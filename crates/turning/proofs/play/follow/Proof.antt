@@ -7,10 +7,10 @@ use Rattle.turning.proofs.play.follow.Statement.{statement}
 use Rattle.turning.proofs.play.follow.Tie as tie
 
 abbrev Inv-loop : tie.InvT-loop
-Inv-loop coords x y out₀ steps at₀ k₀ out at k = (k ≤ steps) × (length out ≡ length out₀)
+Inv-loop coords x y trust out₀ steps at₀ k₀ out at k = (k ≤ steps) × (length out ≡ length out₀)
 
 abbrev μ-loop : tie.MeasureT-loop
-μ-loop coords x y out₀ steps at₀ k₀ out at k = steps - k
+μ-loop coords x y trust out₀ steps at₀ k₀ out at k = steps - k
 
 pub follow-spec : {M : Type 1} → statement M
 follow-spec =

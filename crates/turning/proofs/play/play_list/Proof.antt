@@ -8,11 +8,11 @@ use Rattle.turning.proofs.play.play_list.Statement.{statement}
 use Rattle.turning.proofs.play.play_list.Tie as tie
 
 abbrev Inv-loop : tie.InvT-loop
-Inv-loop coords x y fit rows seed at₀ sum₀ played₀ followed₀ out₀ beside₀ steps₀ k₀ at sum played followed out beside steps k =
+Inv-loop coords x y trust fit rows seed spoils at₀ sum₀ played₀ followed₀ out₀ beside₀ steps₀ k₀ at sum played followed out beside steps k =
     (k ≤ 40) × (at < 2 ^ 31) × (length out ≡ 100) × (length beside ≡ 100)
 
 abbrev μ-loop : tie.MeasureT-loop
-μ-loop coords x y fit rows seed at₀ sum₀ played₀ followed₀ out₀ beside₀ steps₀ k₀ at sum played followed out beside steps k =
+μ-loop coords x y trust fit rows seed spoils at₀ sum₀ played₀ followed₀ out₀ beside₀ steps₀ k₀ at sum played followed out beside steps k =
     40 - k
 
 pub play-list-spec : {M : Type 1} → statement M

@@ -5,10 +5,10 @@ use Rattle.turning.proofs.play.play_lists.Statement.{statement}
 use Rattle.turning.proofs.play.play_lists.Tie as tie
 
 abbrev Inv-loop : tie.InvT-loop
-Inv-loop j coords x y fit rows seed at₀ sum₀ k₀ at sum k = (k ≤ 4) × (at < 2 ^ 31)
+Inv-loop j coords x y trust fit rows seed spoils at₀ sum₀ k₀ at sum k = (k ≤ 4) × (at < 2 ^ 31)
 
 abbrev μ-loop : tie.MeasureT-loop
-μ-loop j coords x y fit rows seed at₀ sum₀ k₀ at sum k = 4 - k
+μ-loop j coords x y trust fit rows seed spoils at₀ sum₀ k₀ at sum k = 4 - k
 
 pub play-lists-spec : {M : Type 1} → statement M
 play-lists-spec =

@@ -3,17 +3,16 @@ use borrow.Author.Needs.{needs}
 use Prim.Native.Nat.{_-_}
 use Rattle.real.proofs.Fold.{Range, none, more, done}
 use Rattle.real.specs.Reals.{zero64}
-use Rattle.kernel.specs.Weight.{weightOf}
 use Rattle.weights.specs.Weights.{weighStep}
-use Rattle.weights.specs.Near.{nearDistance}
+use Rattle.weights.specs.Near.{nearWeight}
 use Rattle.weights.proofs.near.weigh_all.Statement.{statement}
 use Rattle.weights.proofs.near.weigh_all.Tie as tie
 
 abbrev Inv-loop : tie.InvT-loop
-Inv-loop coords n kernel east north b w₀ y sum₀ j₀ w sum j = Range (weighStep (λ i. weightOf kernel (nearDistance coords east north i) b)) (w₀, zero64) 0 n j (w, sum)
+Inv-loop coords trust n kernel east north b w₀ y sum₀ j₀ w sum j = Range (weighStep (nearWeight kernel coords trust east north b)) (w₀, zero64) 0 n j (w, sum)
 
 abbrev μ-loop : tie.MeasureT-loop
-μ-loop coords n kernel east north b w₀ y sum₀ j₀ w sum j = n - j
+μ-loop coords trust n kernel east north b w₀ y sum₀ j₀ w sum j = n - j
 
 settle-all-requires : tie.Need-settle-all-requires Inv-loop μ-loop
 settle-all-requires c κs = search needs
@@ -24,8 +23,8 @@ loop-holds c = none (search needs)
 loop-again : tie.Need-loop-again Inv-loop μ-loop
 unfolding weighStep
 loop-again c =
-    let s = c .before .before in
-    more (s .loop .inv) (search needs) (rw (c .weight .ensures, s .before .settle-all .ensures .at (s .loop .j) (search needs)))
+    let s = c .before .before .before in
+    more (s .loop .inv) (search needs) (rw (c .before .weight .ensures, s .before .settle-all .ensures .at (s .loop .j) (search needs)))
 
 returns : tie.Need-returns Inv-loop μ-loop
 returns c = done (c .before .loop .inv) (search needs)
@@ -40,6 +39,8 @@ weigh-all-spec =
     (λ c. search needs)
     (λ c. search needs)
     (λ c κs. search needs)
+    (λ c. search needs)
+    (λ c. search needs)
     (λ c. search needs)
     (λ c. search needs)
     (λ c. search needs)

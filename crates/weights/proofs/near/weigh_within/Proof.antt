@@ -4,25 +4,24 @@ use mathlib.Core.Path.{_∙_}
 use Prim.Native.Nat.{_-_}
 use Rattle.real.proofs.Fold.{Range, none, more, done}
 use Rattle.real.specs.Reals.{zero64}
-use Rattle.kernel.specs.Weight.{weightOf}
 use Rattle.kernel.proofs.Reaches.{distance-is}
 use Rattle.weights.specs.Weights.{weighStep}
-use Rattle.weights.specs.Near.{nearDistance}
+use Rattle.weights.specs.Near.{nearWeight}
 use Rattle.weights.proofs.near.weigh_within.Statement.{statement}
 use Rattle.weights.proofs.near.weigh_within.Tie as tie
 
 abbrev Inv-loop : tie.InvT-loop
-Inv-loop coords n kernel east north b reach w₀ sum₀ j₀ w sum j = Range (weighStep (λ i. weightOf kernel (nearDistance coords east north i) b)) (w₀, zero64) 0 n j (w, sum)
+Inv-loop coords trust n kernel east north b reach w₀ sum₀ j₀ w sum j = Range (weighStep (nearWeight kernel coords trust east north b)) (w₀, zero64) 0 n j (w, sum)
 
 abbrev μ-loop : tie.MeasureT-loop
-μ-loop coords n kernel east north b reach w₀ sum₀ j₀ w sum j = n - j
+μ-loop coords trust n kernel east north b reach w₀ sum₀ j₀ w sum j = n - j
 
 loop-holds : tie.Need-loop-holds Inv-loop μ-loop
 loop-holds c = none (search needs)
 
 loop-again : tie.Need-loop-again Inv-loop μ-loop
 unfolding weighStep
-loop-again c = more (c .before .before .before .before .before .loop .inv) (search needs) (rw (c .weight-within .ensures, c .before .squares .ensures, distance-is))
+loop-again c = more (c .before .before .before .before .before .before .loop .inv) (search needs) (rw (c .before .weight-within .ensures, c .before .before .squares .ensures, distance-is))
 
 returns : tie.Need-returns Inv-loop μ-loop
 returns c = done (c .before .loop .inv) (search needs)
@@ -41,6 +40,8 @@ weigh-within-spec =
     (λ c. search needs)
     (λ c κs. search needs)
     (λ c κs. search needs)
+    (λ c. search needs)
+    (λ c. search needs)
     (λ c. search needs)
     (λ c. search needs)
     (λ c. search needs)
