@@ -12,7 +12,8 @@ use lib.Ieee.Scale.{finite}
 use Rattle.real.specs.Fold.{turns, range}
 use Rattle.real.specs.Matrix.{Row, Matrix}
 use Rattle.real.proofs.SignedOrder.{here-or-on, apart, nlt→le}
-use Rattle.real.proofs.Cases.{by-truth}
+use Rattle.real.proofs.Cases.{by-truth, denied}
+use Rattle.real.proofs.Values.{number-zero}
 use Rattle.real.specs.Reals.{zero64}
 use Rattle.estimate.specs.Inverse.{allStep, allBelow, inverseCell, inverseRowFinite, inverseFinite}
 use Rattle.estimate.specs.Estimate.{coefficientsFinite}
@@ -93,13 +94,6 @@ coefficient-not-finite-means beta m =
 pub weightless-means : (sum : Float) → (not (lt zero64 sum) ≡ true) ↔ (T (isNan sum) ⊎ T (le sum zero64))
 weightless-means sum = (λ e. by-truth (isNan sum) (λ k. inl k) (λ n. inr (nlt→le zero64 sum number-zero n (subst⁻¹ T e tt))), λ h. denied (lt zero64 sum) (below h))
   where
-    number-zero : T (not (isNan zero64))
-    number-zero = unfold isNan ofBits in tt
-
-    denied : (b : Bool) → (T b → ⊥) → not b ≡ true
-    denied true k = absurd (k tt)
-    denied false k = refl
-
     not-nan : (x : Float) → T (isNan x) → T (lt zero64 x) → ⊥
     not-nan nan a b = unfold lt ofBits in b
     not-nan (inf s) a b = unfold isNan in a

@@ -13,7 +13,8 @@ use lib.Ieee.Scale.{finite}
 use Rattle.real.specs.Finite.{allOf, allFinite, inUnit}
 use Rattle.real.specs.Reals.{zero64, one64}
 use Rattle.real.proofs.SignedOrder.{apart, nlt→le, number-right}
-use Rattle.real.proofs.Cases.{by-truth}
+use Rattle.real.proofs.Cases.{by-truth, denied}
+use Rattle.real.proofs.Values.{number-zero, number-one}
 use Rattle.setup.specs.declared.GwrBandwidth.{GwrBandwidth}
 use Rattle.setup.specs.declared.GwrBandwidth.the-variants.{Fixed, AdaptiveKnn}
 use Rattle.setup.specs.declared.GwrOptions.{GwrOptions}
@@ -87,21 +88,9 @@ module _ (d : Data) where
 
 -- ---- 26
 
-number-zero : T (not (isNan zero64))
-unfolding isNan ofBits
-number-zero = tt
-
-number-one : T (not (isNan one64))
-unfolding isNan ofBits
-number-one = tt
-
 not-both : (b : Bool) → T b → T (not b) → ⊥
 not-both true h k = k
 not-both false h k = h
-
-denied : (b : Bool) → (T b → ⊥) → not b ≡ true
-denied true h = absurd (h tt)
-denied false h = refl
 
 within-not : (v : Float) → OutOfUnit v → T (inUnit v) → ⊥
 within-not v (inl h) k = not-both (isNan v) h (number-right zero64 v (and-l (le zero64 v) (le v one64) k))

@@ -20,5 +20,10 @@ pub by-truth : {A : Type 0} (b : Bool) → (T b → A) → (T (not b) → A) →
 by-truth true f g = f tt
 by-truth false f g = g tt
 
+-- what cannot hold is denied
+pub denied : (b : Bool) → (T b → ⊥) → not b ≡ true
+denied true f = absurd (f tt)
+denied false f = refl
+
 pub never : {A : Type 0} → false ≡ true → A
 never h = let z : _≡_ {A = ℕ} 0 1 = cc in absurd (omega arith)

@@ -1,5 +1,5 @@
 -- Values of binary64: a number less itself, a number's whole part and its size, and that a number of the format is rounded to itself. Assumes nothing.
-use mathlib.Core.Path.{_≡_, refl, sym, ap, _∙_, subst}
+use mathlib.Core.Path.{_≡_, refl, sym, ap, _∙_, subst, subst⁻¹}
 use mathlib.Core.Bool.{Bool, true, false, not, _&&_, cond}
 use mathlib.Core.Logic.{inl, inr}
 use Prim.Native.Nat.{ℕ, zero, suc, _+_, _-_, _*_, _/_, _%_, _^_, _≤_, _<_}
@@ -7,7 +7,7 @@ use native.Mathlib.Nat.{sub-self, mul-pos, lt-irrefl, zero-mul, one-mul, mul-one
 use native.Mathlib.Omega.{arith}
 use lib.IntN.{ℤ, pos, negsuc}
 use lib.Dec.{T, ltb, T-not, ltb→lt, lt→ltb, lit<, lit≤, eqb, eqb→eq, leb, leb→le}
-use lib.Ieee.{Float, nan, inf, fin, Format, binary64, up, down, round, sum, add, sub, mul, neg, lt, eq, le, fits, ofBits, toBits, toUnsigned, nanBits, prec, emax, low, size, hid, top}
+use lib.Ieee.{Float, nan, inf, fin, Format, binary64, up, down, round, sum, add, sub, mul, neg, unlike, lt, eq, le, isNan, fits, ofBits, toBits, toUnsigned, nanBits, prec, emax, low, size, hid, top}
 use lib.Pow.{pow-pos, pow-add, pow-lt}
 use lib.Ieee.Fits.{down-pos, and-l, and-r, round-fits, neg-fits}
 use lib.Ieee.Exact.{HasValue, round-exact}
@@ -15,7 +15,7 @@ use lib.Ieee.Bits.{ofBits-toBits, nanBits-above}
 use lib.Ieee.Nearest.{div-same}
 use lib.Ieee.Scale.{finite}
 use borrow.Author.Tests.{le-ltb}
-use Rattle.real.specs.Reals.{zero64, magnitude}
+use Rattle.real.specs.Reals.{zero64, one64, magnitude}
 use Rattle.real.proofs.SignedOrder.{P, N, SLe, sle-at, sle-scale, sum-is, add-opened, mul-by, unlike-false, round-smono, zero-of, toUnsigned-mono, lt→le, here-or-on, sle-of, of-sle}
 
 -- ---- x - x is zero where x is finite, and NaN elsewhere
@@ -31,12 +31,53 @@ unfolding sum
 sum-itself f true a c C = rw (ltb-self, sub-self) (zero-of f false c C)
 sum-itself f false a c C = rw (ltb-self, sub-self) (zero-of f false c C)
 
+-- z tells b: it is a zero if b holds, and NaN if not
+pub record Tells (z : Float) (b : Bool) : Type 0 where
+  sign : Bool
+  is : z ≡ cond b (fin sign 0 (pos 0)) nan
+
+pub zero-tells : Tells zero64 true
+unfolding ofBits
+zero-tells = record { sign = false; is = refl }
+
+pub less-tells : (x : Float) → Tells (sub binary64 x x) (finite x)
+unfolding sub add neg
+less-tells nan = record { sign = false; is = refl }
+less-tells (inf true) = record { sign = false; is = refl }
+less-tells (inf false) = record { sign = false; is = refl }
+less-tells (fin s m e) = record { sign = false; is = sum-itself binary64 s (m * up e * down e) (down e * down e) (mul-pos (down-pos e) (down-pos e)) }
+
+-- and so does its product with x tell whether x is finite too
+pub times-tells : {z : Float} {b : Bool} (x : Float) → Tells z b → Tells (mul binary64 z x) (b && finite x)
+unfolding mul
+times-tells {z} {b} x t = subst⁻¹ (λ (y : Float). Tells (mul binary64 y x) (b && finite x)) (t .is) (go b (t .sign) x)
+  where
+    go : (b s : Bool) (x : Float) → Tells (mul binary64 (cond b (fin s 0 (pos 0)) nan) x) (b && finite x)
+    go false s x = record { sign = false; is = refl }
+    go true s nan = record { sign = false; is = refl }
+    go true s (inf t) = record { sign = false; is = refl }
+    go true s (fin t n d) = record { sign = unlike s t; is = ap (λ (k : ℕ). round binary64 (unlike s t) k (1 * down d)) (zero-mul (n * up d)) ∙ zero-of binary64 (unlike s t) (1 * down d) (mul-pos (down-pos (pos 0)) (down-pos d)) }
+
+pub told : {z : Float} {b : Bool} → Tells z b → eq z zero64 ≡ b
+unfolding eq ofBits
+told {z} {b} t = ap (λ (y : Float). eq y zero64) (t .is) ∙ go b (t .sign)
+  where
+    go : (b s : Bool) → eq (cond b (fin s 0 (pos 0)) nan) zero64 ≡ b
+    go true true = refl
+    go true false = refl
+    go false s = refl
+
 pub less-itself : (x : Float) → eq (sub binary64 x x) zero64 ≡ finite x
-unfolding sub add neg eq ofBits
-less-itself nan = refl
-less-itself (inf true) = refl
-less-itself (inf false) = refl
-less-itself (fin s m e) = ap (λ (z : Float). eq z zero64) (sum-itself binary64 s (m * up e * down e) (down e * down e) (mul-pos (down-pos e) (down-pos e)))
+less-itself x = told (less-tells x)
+
+-- ---- zero and one are numbers
+pub number-zero : T (not (isNan zero64))
+unfolding isNan ofBits
+number-zero = tt
+
+pub number-one : T (not (isNan one64))
+unfolding isNan ofBits
+number-one = tt
 
 -- ---- the whole part of a number below 2 ^ 32
 abbrev pub big64 : Float

@@ -23,6 +23,7 @@ use Rattle.request.proofs.Options.{kernel-known}
 use Rattle.weighing.specs.Weighing.{distanceTests, weightTests, refusedWeight, givenWeight, weightBytes, placedWeight, weighedBytes}
 use mathlib.Core.Logic.{_⊎_, inl, inr}
 use Rattle.real.proofs.SignedOrder.{apart, nlt→le}
+use Rattle.real.proofs.Values.{number-zero}
 use Rattle.wire.proofs.Numbers.{length-bytesOf}
 
 pub both : {n m : ℕ} {a b : List ℕ} → n ≡ m → a ≡ b → _≡_ {A = ℕ × List ℕ} (n, a) (m, b)
@@ -84,10 +85,6 @@ unfolding weightTests
 weight-known number d out h = kernel-known (kernelOf number) (none-head _ _ _ h .0)
 
 -- ---- 9
-
-number-zero : T (not (isNan zero64))
-unfolding isNan ofBits
-number-zero = tt
 
 not-from-zero : (d : Float) → le zero64 d ≡ false → T (isNan d) ⊎ T (lt d zero64)
 not-from-zero d e = go (isNan d) refl (lt d zero64) refl
