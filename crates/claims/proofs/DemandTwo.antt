@@ -1,12 +1,12 @@
 -- Demand 2 holds: `demand-two`, at the end. Each part is a theorem of the crate that has the definition.
-use mathlib.Core.Path.{ap, subst⁻¹}
+use mathlib.Core.Path.{ap}
 use Prim.Native.Nat.{ℕ, _+_, _*_, _<_}
 use native.Mathlib.Omega.{arith}
 use lib.Dec.{T}
 use lib.ListN.{getD}
 use lib.Ieee.{nan}
 use lib.Ieee.Scale.{finite}
-use Rattle.claims.specs.Words.{At, between, NoneOf, GwrOptions, Data, dataOf, setupOf, Acceptance, inputTests, fitTests, answered, gwrFit}
+use Rattle.claims.specs.Words.{At, between, NoneOf, GwrOptions, Data, dataOf, setupOf, Acceptance, fitTests, answered, gwrFit}
 use Rattle.claims.proofs.Laws.{plus-once, minus-once, times-once, over-once, opposite-exact, less-exact, constants-exact, root-nearest, root-of-negative, root-of-nan, root-of-infinity, root-of-zero, exp-in, K-le, near-power-series, ln-finite, split-exact, weights-in, weight-zero, weight-rounded, weight-apart, gaussian-exact, bisquare-exact, bisquare-outside, exponential-exact, ceil-root-least, default-count, given-count, nearest-is-kth, all-ascending, all-met, product-in, published-exact, aicc-rounded, aicc-refused, aicc-exhausted, aicc-floored, guard-same, guard-differs, guard-nan, bytes-unguarded, G-is, G2-is, near-golden, start-section, round-section, residues, golden-section, round-kiefer, searched, round-narrows, bottom-kept, bottom-stays, normal-equations, fit-literal}
 use Rattle.claims.proofs.Sums.{places, sum-at, weighs-at, never-weightless, one-weighs}
 use Rattle.claims.proofs.Trusting.{solve-trusting, score-trusting, fit-trusting, begin-trusting, turn-trusting}

@@ -1,16 +1,16 @@
 -- The weight sums of an accepted job: finite, and above 0 where the location's own trust times 1 is, so that 27 is not met there.
-use mathlib.Core.Path.{_≡_, refl, sym, ap, _∙_, subst, subst⁻¹}
+use mathlib.Core.Path.{_≡_, ap, _∙_, subst, subst⁻¹}
 use mathlib.Core.Bool.{true}
 use mathlib.Core.Logic.{inl, inr}
 use mathlib.Core.List.{List}
-use Prim.Native.Nat.{ℕ, _+_, _*_, _<_}
+use Prim.Native.Nat.{ℕ, _*_, _<_}
 use native.Mathlib.Omega.{arith}
 use lib.Dec.{T}
-use lib.ListN.{length, getD, replicate}
+use lib.ListN.{length, getD}
 use lib.Ieee.{Float, nan, binary64, mul, lt, le, fits, ofBits}
 use lib.Ieee.Fits.{and-l, and-r}
 use lib.Ieee.Scale.{finite}
-use Rattle.claims.specs.Words.{zero64, one64, inUnit, Refusal, WeightSumNotPositive, refusalNumber, NoneOf, GwrBandwidth, GwrOptions, Setup, Trusts, unasked, each, Data, dataOf, trusting, countIn, setupOf, localBandwidthDistance, trustedWeight, weightsAt, trustsFit, inputTests, fitTests, Outcome, solveLocation}
+use Rattle.claims.specs.Words.{zero64, one64, inUnit, WeightSumNotPositive, refusalNumber, NoneOf, GwrBandwidth, GwrOptions, Setup, Trusts, unasked, each, Data, trusting, countIn, setupOf, localBandwidthDistance, trustedWeight, weightsAt, trustsFit, inputTests, fitTests, Outcome, solveLocation}
 use Rattle.claims.proofs.Laws.{at-each, none-append, Accepted, input-accepted, TrustAt, weight-sum, one-at, times-whole, AtFit, OutcomeBy, weighed-at}
 use Rattle.local.specs.declared.Outcome.the-variants as outcome
 

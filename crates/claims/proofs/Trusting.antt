@@ -1,16 +1,15 @@
 -- With trusts of 1 every solve, score, fit, beginning and turn is that of the same data with no trust asked for. Assumes nothing.
-use mathlib.Core.Path.{_≡_, refl, sym, ap, _∙_, subst⁻¹}
-use mathlib.Core.Bool.{Bool, true, false, cond, not, _&&_}
-use mathlib.Core.List.{List, [], _∷_, _++_}
-use Prim.Native.Nat.{ℕ, zero, suc, _+_, _*_, _/_}
+use mathlib.Core.Path.{_≡_, refl, sym, ap, _∙_}
+use mathlib.Core.Bool.{Bool, true, false, cond}
+use mathlib.Core.List.{List, []}
+use Prim.Native.Nat.{ℕ, zero, suc}
 use native.Mathlib.Omega.{arith}
-use lib.Dec.{T, eqb}
 use lib.ListN.{length, replicate, length-replicate}
 use lib.Ieee.{Float, le, ofBits}
 use borrow.Author.Tests.{not-false}
 use Rattle.checks.specs.declared.Check.the-variants as check
-use Rattle.claims.specs.Words.{one64, allOf, allInUnit, Refusal, judge, ruled, NoneOf, Check, GwrBandwidth, GwrOptions, Setup, Data, dataOf, trusting, trustCount, setupOf, weightsFrom, trustsFit, lengthsFit, shapeTests, valueTests, outputTests, inputTests, fitTests, Plan, Settled, Sought, Acceptance, Planned, planOf, accepted, acceptOf, bandwidthAt, Solved, solveLocal, solveLocation, Course, Going, Stopped, Swept, afterSolve, rowAfter, visitAt, visit, fitAllLocations, Trial, trialFrom, trialOf, Search, Optimum, scoredOf, roundWith, optimumOf, Bracket, startOf, aimOf, roundOf, openedOf, goldenOf, optimizeBandwidth, finalOf, soughtOf, planned, answered, gwrFit, Job, solveOf, stepJob, stepOut, stepOf, isOver, isFinal, afterOutcome, run, begunWith, beginOf, isFit, isEnded, lentTests, turnTests, refusedTurn, ranOf, runOf, turnOf, fitFrom}
-use Rattle.claims.proofs.Laws.{related, none-append, none-head, ruled-pass, ruled-refused, ones-weights, fit-blind, values-blind, input-accepted, step-setup, lengths-fit-means}
+use Rattle.claims.specs.Words.{one64, allOf, allInUnit, Refusal, judge, ruled, NoneOf, Check, GwrBandwidth, GwrOptions, Setup, Data, dataOf, trusting, setupOf, lengthsFit, valueTests, inputTests, fitTests, Plan, Settled, Sought, Acceptance, planOf, accepted, acceptOf, bandwidthAt, Solved, solveLocal, solveLocation, Course, Going, Stopped, Swept, afterSolve, rowAfter, visitAt, visit, fitAllLocations, Trial, trialFrom, trialOf, Search, Optimum, scoredOf, roundWith, optimumOf, Bracket, startOf, aimOf, roundOf, openedOf, goldenOf, optimizeBandwidth, finalOf, soughtOf, planned, answered, gwrFit, Job, stepJob, stepOut, stepOf, isOver, isFinal, afterOutcome, run, begunWith, beginOf, lentTests, turnTests, refusedTurn, ranOf, runOf, turnOf, fitFrom}
+use Rattle.claims.proofs.Laws.{related, none-append, none-head, ones-weights, fit-blind, values-blind, input-accepted, step-setup, lengths-fit-means}
 
 -- ---- a fit sees its data through its solves
 

@@ -1,6 +1,5 @@
 -- `calls::fitted_bytes`: what the fit wrote has room in the bytes.
 use borrow.Author.Needs.{needs}
-use mathlib.Core.Path.{_∙_}
 use native.Mathlib.Omega.{arith}
 use Rattle.real.specs.Reals.{one64}
 use Rattle.calls.proofs.Bytes.{take-replicate, zeros-long}

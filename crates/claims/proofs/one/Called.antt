@@ -1,19 +1,19 @@
 -- The byte calls and the printing program: what is served.
-use mathlib.Core.Path.{_≡_, refl, ap, subst, subst⁻¹, _∙_}
+use mathlib.Core.Path.{_≡_, refl, subst, subst⁻¹}
 use mathlib.Core.List.{List}
 use mathlib.Core.Logic.{_⊎_, inl, inr}
 use Prim.Native.Nat.{ℕ, _+_, _*_, _/_, _≤_, _<_}
 use native.Mathlib.Omega.{arith}
 use lib.ListN.{length, take, replicate}
 use lib.Ieee.{Float}
-use Rattle.claims.specs.Words.{zero64, Refusal, Singular, InverseNotFinite, CoefficientNotFinite, refusalNumber, NoneOf, Decides, GwrKernel, weightOf, GwrBandwidth, GwrOptions, Setup, setupOf, Data, Outcome, solveLocation, Criterion, deviation, correctedAic, rounded, fromCount, root, finishOf, FitAnswer, realOf, kernelOf, namedKernel, optionsOf, named, AfterCall, numbersOf, callTests, placedRows, answerBytes, fittedBytes, numbersFit, fitBytes, weightTests, refusedWeight, givenWeight, weightBytes}
+use Rattle.claims.specs.Words.{zero64, Refusal, refusalNumber, NoneOf, Decides, GwrKernel, weightOf, GwrBandwidth, GwrOptions, Setup, setupOf, Data, solveLocation, Criterion, deviation, correctedAic, rounded, fromCount, root, finishOf, FitAnswer, realOf, kernelOf, namedKernel, optionsOf, named, AfterCall, numbersOf, callTests, placedRows, answerBytes, numbersFit, fitBytes, weightTests, refusedWeight, givenWeight, weightBytes}
 use Rattle.claims.proofs.Laws.{either, AtFit, OutcomeBy, call-decides, weight-decides, call-passed, call-untouched, weight-known}
 use Rattle.criterion.specs.declared.Criterion.the-variants as criterion
 use lib.Ieee.Scale.{finite}
 use Rattle.sweep.specs.declared.Finish.the-variants as finish
 use Rattle.gwr.specs.declared.FitAnswer.the-variants as fit
 use Rattle.request.specs.declared.KernelChoice.the-variants as choice
-use Rattle.claims.specs.DemandOne.{residualSquares, leverageTrace, FitAnswered, JobServed, BytesServed}
+use Rattle.claims.specs.DemandOne.{FitAnswered, BytesServed}
 use Rattle.claims.proofs.Sums.{accepted, weighs-at, trusting-weighs}
 use Rattle.claims.proofs.one.Deciding.{fit-decides}
 

@@ -1,11 +1,11 @@
 -- The fit, beginning and the weight of a distance: which inputs are refused, and what is served.
-use mathlib.Core.Path.{_≡_, refl, sym, ap, subst, subst⁻¹, _∙_}
+use mathlib.Core.Path.{_≡_, refl, ap, subst, subst⁻¹}
 use mathlib.Core.Bool.{false}
 use mathlib.Core.List.{List, []}
 use Prim.Native.Nat.{ℕ}
 use lib.ListN.{length, replicate, length-replicate}
 use lib.Ieee.{Float}
-use Rattle.claims.specs.Words.{zero64, Refusal, FirstOf, NoneOf, Decides, GwrOptions, Setup, Data, setupOf, Plan, Acceptance, fitTests, planOf, acceptOf, Fit, answered, gwrFit, Begun, sizesFit, isFit, begunWith, beginOf}
+use Rattle.claims.specs.Words.{zero64, Refusal, FirstOf, NoneOf, Decides, GwrOptions, Setup, Data, setupOf, Plan, Acceptance, fitTests, planOf, acceptOf, answered, gwrFit, Begun, sizesFit, isFit, begunWith, beginOf}
 use Rattle.claims.proofs.Laws.{accept-decides, fit-means}
 use Rattle.plan.specs.declared.Acceptance.the-variants as acceptance
 use Rattle.gwr.specs.declared.FitAnswer.the-variants as fit

@@ -1,9 +1,7 @@
 -- What the tests of demand 1's lists mean: each law is of the crate that has the test.
 use mathlib.Core.Path.{_≡_, refl, sym, subst}
-use mathlib.Core.Bool.{Bool, true, false, not, _||_}
-use mathlib.Core.Logic.{_⊎_}
+use mathlib.Core.Bool.{Bool, true}
 use borrow.Author.Tests.{leb-true, le-leb}
-use lib.Dec.{T}
 use Rattle.claims.specs.Words.{Means, Criterion, Stage, First, Second, Round, Final, Ended, isEnded}
 use Rattle.claims.proofs.Laws.{never, not-means, and-means, or-means, equal-means, below-means, weightless-means, inverse-not-finite-means, coefficient-not-finite-means, not-finite-means, trust-out-of-range-means, unusable-distance-means, no-distance-range-means, lengths-fit-means, kinds-means, distance-means, unknown-means}
 use Rattle.claims.specs.Meanings.{Meanings}

@@ -1,7 +1,6 @@
 -- `local::solve::solve_local` meets its contract: weights, then coefficients, and by whether these were found.
 use borrow.Author.Needs.{needs}
 use mathlib.Core.Path.{sym}
-use Rattle.setup.proofs.Shapes.{untrusted-shaped}
 use Rattle.estimate.proofs.Blind.{fit-blind}
 use Rattle.evaluate.proofs.Blind.{values-blind}
 use Rattle.local.specs.Solve.{outcomeOf, solveLocal}
