@@ -1,4 +1,4 @@
 pub mod Products
 pub mod WeightSum
 pub mod Ones
-pub mod Settles
+pub mod Fills

@@ -1,14 +1,13 @@
 -- With trusts of 1 the weights are those of 000, which asks for none: x·1 is x.
-use mathlib.Core.Path.{_≡_, refl, sym, ap, _∙_}
+use mathlib.Core.Path.{_≡_, refl, ap, _∙_}
 use mathlib.Core.List.{List}
-use Prim.Native.Nat.{ℕ, zero, suc, _+_, _*_, _<_}
+use Prim.Native.Nat.{ℕ, zero, suc, _<_}
 use native.Mathlib.Nat.{le-of-suc-le-suc, not-suc-le-zero}
 use native.Mathlib.Omega.{arith}
 use lib.Dec.{T}
 use lib.ListN.{length, getD, replicate}
 use lib.Ieee.{Float, nan, binary64, mul, fits, ofBits}
-use Rattle.real.specs.Fold.{range}
-use Rattle.real.specs.Reals.{zero64, one64}
+use Rattle.real.specs.Reals.{one64}
 use Rattle.real.proofs.Fold.{related}
 use Rattle.real.proofs.Values.{times-one}
 use Rattle.kernel.proofs.WeightRange.{weight-fits}

@@ -1,14 +1,12 @@
 -- The product of a weight and a trust lies from 0 to 1.
 use mathlib.Core.Path.{_≡_, refl, sym, ap, _∙_, subst}
 use mathlib.Core.Bool.{Bool, true, false}
-use Prim.Native.Nat.{ℕ, _*_}
 use lib.Dec.{T}
-use lib.Ieee.{Float, binary64, mul, neg, le, unlike, round, ofBits}
+use lib.Ieee.{Float, binary64, mul, neg, le, unlike, ofBits}
 use lib.Ieee.Scale.{finite}
-use lib.Ieee.Positive.{num, den}
-use Rattle.real.specs.Reals.{zero64, one64, magnitude}
+use Rattle.real.specs.Reals.{magnitude}
 use Rattle.real.proofs.Closed.{nought, one}
-use Rattle.real.proofs.SignedOrder.{sgn, natural, sgn-natural, le-tr, in-fin, mag-of, mag-nat, mag-in, mag-finite, mul-mag, mul-opened, mul-commute, mul-smono, mul-nmono, zero-times, nat-above, round-sgn}
+use Rattle.real.proofs.SignedOrder.{sgn, sgn-natural, le-tr, in-fin, mag-of, mag-nat, mag-in, mag-finite, mul-mag, mul-opened, mul-commute, mul-smono, mul-nmono, zero-times, nat-above, round-sgn}
 use Rattle.kernel.specs.Weight.{FromZeroToOne}
 
 minus-one : T (le (neg one) nought)

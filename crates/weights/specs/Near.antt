@@ -1,4 +1,4 @@
--- Inside `weights`: what its loops read of the setup and the data, and distances settled before the weights. Nothing above rests on it. Definitions only.
+-- Inside `weights`: what its loops read of the setup and the data, and distances and kernel weights made before the weights. Nothing above rests on it. Definitions only.
 use Prim.Native.Nat.{ℕ, _+_, _*_, _<_}
 use mathlib.Core.Path.{_≡_}
 use mathlib.Core.List.{List}
@@ -22,6 +22,14 @@ nearWeight k coords trust east north b j = mul binary64 (weightOf k (nearDistanc
 abbrev pub nearWeights : GwrKernel → List Float → List Float → ℕ → Float → Float → Float → List Float → List Float × Float
 nearWeights k coords trust n east north b w = range (weighStep (nearWeight k coords trust east north b)) 0 n (w, zero64)
 
--- y holds the distances of the first n observations
-pub record Settled (coords : List Float) (n : ℕ) (east north : Float) (y : List Float) : Type 0 where
-  pub at : (j : ℕ) → j < n → getD y j nan ≡ nearDistance coords east north j
+-- the kernel's weight at the j-th of the distances d
+abbrev pub kernelOver : GwrKernel → Float → List Float → ℕ → Float
+kernelOver k b d j = weightOf k (getD d j nan) b
+
+-- the weight of observation j, whose kernel weight is in v, with its trust
+abbrev pub trustedOver : List Float → List Float → ℕ → Float
+trustedOver v trust j = mul binary64 (getD v j nan) (getD trust j nan)
+
+-- y holds f of each of the first n observations
+pub record Filled (f : ℕ → Float) (n : ℕ) (y : List Float) : Type 0 where
+  pub at : (j : ℕ) → j < n → getD y j nan ≡ f j

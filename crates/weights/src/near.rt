@@ -1,10 +1,11 @@
 // What makes the weights fast: no root beyond a kernel's reach; and where there is no reach all distances are guessed, then settled,
-// then weighed, each in a loop of its own, since a guess waits for divisions and an exponential keeps no number in its register.
+// then weighed by the kernel, then by their trusts, each in a loop of its own: a guess waits for divisions, and an exponential keeps
+// no number in its register and leaves room for little beside it.
 ghost use mathlib.Core.Path.{_≡_};
 ghost use Prim.Native.Nat.{_*_, _≤_};
 ghost use lib.ListN.{length};
 ghost use Rattle.kernel.specs.Reach.{Reach};
-ghost use Rattle.weights.specs.Near.{nearWeights, Settled};
+ghost use Rattle.weights.specs.Near.{nearDistance, nearWeights, kernelOver, Filled};
 use kernel::GwrKernel;
 
 // A guess at the distance of each observation from (east, north), into y. How near they come is not claimed.
@@ -22,10 +23,21 @@ fn guess_all(coords: &[f64], n: usize, east: f64, north: f64, y: &mut [f64; 512]
 fn settle_all(coords: &[f64], n: usize, east: f64, north: f64, y: &mut [f64; 512])
     requires { ⌜ (length (now coords) ≡ 2 * n) × (n ≤ 512) ⌝ }
     requires { ⌜ length (now y) ≡ 512 ⌝ }
-    ensures { λ _. ⌜ Settled (now (coords .entry)) n east north (now (y .exit)) ⌝ }
+    ensures { λ _. ⌜ length (now (y .exit)) ≡ 512 ⌝ }
+    ensures { λ _. ⌜ Filled (nearDistance (now (coords .entry)) east north) n (now (y .exit)) ⌝ }
 {
     for j in 0..n {
         y[j] = kernel::settle_distance(east, north, coords[2 * j], coords[2 * j + 1], y[j]);
+    }
+}
+
+// The kernel's weight at each of the first n distances, in its place.
+fn kernel_all(n: usize, kernel: GwrKernel, b: f64, y: &mut [f64; 512])
+    requires { ⌜ (n ≤ 512) × (length (now y) ≡ 512) ⌝ }
+    ensures { λ _. ⌜ Filled (kernelOver kernel b (now (y .entry))) n (now (y .exit)) ⌝ }
+{
+    for j in 0..n {
+        y[j] = kernel.weight(y[j], b);
     }
 }
 
@@ -46,9 +58,10 @@ pub fn weigh_all(
     let mut y = [0.0; 512];
     guess_all(coords, n, east, north, &mut y);
     settle_all(coords, n, east, north, &mut y);
+    kernel_all(n, kernel, b, &mut y);
     let mut sum = 0.0;
     for j in 0..n {
-        let v = kernel.weight(y[j], b) * trust[j];
+        let v = y[j] * trust[j];
         w[j] = v;
         sum = sum + v;
     }

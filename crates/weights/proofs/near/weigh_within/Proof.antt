@@ -1,6 +1,5 @@
 -- `weights::near::weigh_within` meets its contract: its loop is the fold of `weighStep`.
 use borrow.Author.Needs.{needs}
-use mathlib.Core.Path.{_∙_}
 use Prim.Native.Nat.{_-_}
 use Rattle.real.proofs.Fold.{Range, none, more, done}
 use Rattle.real.specs.Reals.{zero64}
