@@ -72,38 +72,68 @@ fn line(columns: &str, [proved, steps, platform]: [f64; 3]) {
     );
 }
 
-/// Every kernel and kind.
-pub fn fits(repeats: usize) {
-    head("n | p | kernel | bandwidth | local solves", 5);
+/// A fit that is timed, and what its line begins with.
+pub struct Line {
+    pub name: String,
+    pub job: Job,
+}
+
+/// Every kernel and kind: n, p, kernel, bandwidth.
+pub fn fitted() -> Vec<Line> {
+    let mut lines = Vec::new();
     for n in [128, 512] {
         for p in [2, 7] {
             for kernel in 0..3 {
                 for kind in 0..4 {
-                    // A search has a hundred fits in it.
-                    let repeats = if kind < 2 { repeats } else { 1 };
-                    let (times, solves) = times(&job(n, p, kernel, kind), repeats);
-                    let (kernel, kind) = (KERNELS[kernel as usize], KINDS[kind as usize]);
-                    line(&format!("{n} | {p} | {kernel} | {kind} | {solves}"), times);
+                    let (k, b) = (KERNELS[kernel as usize], KINDS[kind as usize]);
+                    lines.push(Line {
+                        name: format!("{n} | {p} | {k} | {b}"),
+                        job: job(n, p, kernel, kind),
+                    });
                 }
             }
         }
     }
+    lines
 }
 
-/// How times grow with observations and predictors, at a distance at which every pantry weighs.
-pub fn growth(repeats: usize) {
-    head("n | p | kernel", 3);
+/// More observations and more predictors, at a distance at which every pantry weighs: n, p, kernel.
+pub fn growing() -> Vec<Line> {
+    let mut lines = Vec::new();
     for kernel in [0, 1] {
         for n in [32, 128, 512] {
             for p in [0, 2, 4, 7] {
-                // A small fit is a short time.
-                let repeats = repeats * (512 / n) as usize;
                 let mut job = job(n, p, kernel, 0);
                 job.bandwidth = 2000.0f64.to_bits();
-                let (times, _) = times(&job, repeats);
-                line(&format!("{n} | {p} | {}", KERNELS[kernel as usize]), times);
+                lines.push(Line {
+                    name: format!("{n} | {p} | {}", KERNELS[kernel as usize]),
+                    job,
+                });
             }
         }
+    }
+    lines
+}
+
+/// Times of every kernel and kind.
+pub fn fits(repeats: usize) {
+    head("n | p | kernel | bandwidth | local solves", 5);
+    for Line { name, job } in fitted() {
+        // A search has a hundred fits in it.
+        let repeats = if job.kind < 2 { repeats } else { 1 };
+        let (times, solves) = times(&job, repeats);
+        line(&format!("{name} | {solves}"), times);
+    }
+}
+
+/// How times grow with observations and predictors.
+pub fn growth(repeats: usize) {
+    head("n | p | kernel", 3);
+    for Line { name, job } in growing() {
+        // A small fit is a short time.
+        let repeats = repeats * (512 / (job.y.len() / 8));
+        let (times, _) = times(&job, repeats);
+        line(&name, times);
     }
 }
 

@@ -1,11 +1,13 @@
 //! Times of the proved code against 000, in the same run, and the stack that a fit takes: `bench [REPEATS] [TABLE..]`, with the
 //! tables `fits`, `growth`, `weights`, `elementary`, `accuracy`, `turns` and `stack`, all of them if none is named.
 //!
-//! `bench once N P KERNEL KIND SIDE` makes one fit, for scripts/instructions.sh.
+//! `bench once N P KERNEL KIND SIDE` makes one fit, for scripts/instructions.sh; `bench against BEFORE AFTER` times two versions of
+//! the proved code, for scripts/against.sh.
 //!
 //! Each line has the medians of the sides and their ratios (proved by the other; below 1 the proved code is faster).
 
 mod accuracy;
+mod against;
 mod fits;
 #[cfg(test)]
 mod guards;
@@ -28,8 +30,13 @@ fn main() -> ExitCode {
         return ExitCode::from(3);
     }
     let mut words: Vec<String> = std::env::args().skip(1).collect();
-    if words.first().is_some_and(|w| w == "once") {
-        return match fits::once(&words[1..]) {
+    type Words = fn(&[String]) -> Option<()>;
+    let others: [(&str, Words); 2] = [("once", fits::once), ("against", against::against)];
+    if let Some((_, other)) = others
+        .iter()
+        .find(|o| words.first().is_some_and(|w| w == o.0))
+    {
+        return match other(&words[1..]) {
             Some(()) => ExitCode::SUCCESS,
             None => ExitCode::from(2),
         };
