@@ -5,7 +5,7 @@ use lib.Dec.{nleb→lt}
 use lib.Ieee.{Float, nan, inf, fin, Format, binary64, prec, up, down, round, sum, add, sub, neg, lt, le, fits, of_int, of_bits, to_unsigned}
 use lib.Ieee.Fits.{down_pos}
 use lib.Ieee.Exact.{HasValue}
-use lib.Ieee.Back.{round_whole}
+use lib.Ieee.Back.{round_whole as whole_kept}
 use lib.Ieee.Scale.{round_same}
 use Rattle.real.specs.Reals.{zero64, half64, round_whole}
 use Rattle.real.proofs.SignedOrder.{sle_of, of_sle}
@@ -18,7 +18,7 @@ rest a b c d p q = omega arith
 
 pub less_whole : (f : Format) (m : ℕ) (e : ℤ) → m * up e / down e ≤ 2 ^ prec f → sub f (fin false m e) (of_int f (pos (m * up e / down e))) ≡ round f false (m * up e % down e) (down e)
 unfolding sub add neg sum of_int
-less_whole f m e h = go (round f false (m * up e / down e) 1) (round_whole f false (m * up e / down e) h)
+less_whole f m e h = go (round f false (m * up e / down e) 1) (whole_kept f false (m * up e / down e) h)
   where
     go : (y : Float) → HasValue y false (m * up e / down e) 1 → sub f (fin false m e) y ≡ round f false (m * up e % down e) (down e)
     go nan v = absurd v
@@ -39,7 +39,7 @@ less_whole f m e h = go (round f false (m * up e / down e) 1) (round_whole f fal
 
 -- what is left has no more digits than the number
 pub rest_value : (f : Format) (s : Bool) (m : ℕ) (e : ℤ) → T (fits f (fin s m e)) → HasValue (round f false (m * up e % down e) (down e)) false (m * up e % down e) (down e)
-rest_value f s m (pos k) h = subst (λ (z : ℕ). HasValue (round f false z 1) false z 1) (sym (mod-one (m * 2 ^ k))) (round_whole f false 0 zero-le)
+rest_value f s m (pos k) h = subst (λ (z : ℕ). HasValue (round f false z 1) false z 1) (sym (mod-one (m * 2 ^ k))) (whole_kept f false 0 zero-le)
 rest_value f s m (negsuc k) h =
     let D = 2 ^ suc k in
     let r = m * 1 % D in

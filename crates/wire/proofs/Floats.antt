@@ -36,12 +36,12 @@ same_level true a = rw (eq-eqb a a refl)
 same_level false a = rw (eq-eqb a a refl)
 
 -- what does not is NaN
-pub is_nan : (y : Float) → eq y y ≡ false → bits_of y ≡ 0x7FF8_0000_0000_0000
+pub is_nan_lem : (y : Float) → eq y y ≡ false → bits_of y ≡ 0x7FF8_0000_0000_0000
 unfolding eq bits_of is_nan
-is_nan nan e = refl
-is_nan (inf true) e = absurd (subst T e tt)
-is_nan (inf false) e = absurd (subst T e tt)
-is_nan (fin s m e') e = absurd (subst T (sym (same_level s (m * up e' * down e')) ∙ e) tt)
+is_nan_lem nan e = refl
+is_nan_lem (inf true) e = absurd (subst T e tt)
+is_nan_lem (inf false) e = absurd (subst T e tt)
+is_nan_lem (fin s m e') e = absurd (subst T (sym (same_level s (m * up e' * down e')) ∙ e) tt)
 
 nan_only : (y : Float) → is_nan y ≡ true → y ≡ nan
 unfolding is_nan
