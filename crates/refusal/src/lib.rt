@@ -1,4 +1,6 @@
 // The refusals of documents 01 and 02. Their numbers stand here and in specs/Numbers.antt, and nowhere else.
+#![tactic(auto)]
+
 ghost use Rattle.std.specs.Prelude.{◌≡◌};
 ghost use Rattle.refusal.specs.Numbers.{refusal_number};
 
