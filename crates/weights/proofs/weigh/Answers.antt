@@ -10,28 +10,17 @@ use Rattle.setup.specs.declared.Setup.{Setup}
 use Rattle.setup.specs.Data.{trusted_data}
 use Rattle.weights.specs.Weights.{weight_from, weights_from}
 use Rattle.weights.specs.Near.{near_weights}
-use Rattle.weights.proofs.weigh.Statement.{statement}
-use Rattle.weights.proofs.weigh.Tie as tie
+use Rattle.weights.proofs.weigh.Goals as goal
 
 over_zeros : (u : Setup) (coords x y trust : List Float) (east north b : Float) (w : List Float) (r : List Float × Float) → w ≡ replicate 512 zero64 → r ≡ near_weights u.options.kernel coords trust u.n east north b w → r ≡ weights_from u (trusted_data coords x y trust) east north b
 unfolding weights_from weight_from
 over_zeros u coords x y trust east north b w r zeros e = e ∙ rw zeros
 
-weigh-within-requires : tie.Need-weigh-within-requires
-weigh-within-requires c κs = search (rules, reaches)
+pub weigh_within-requires : goal.weigh_within-requires
+weigh_within-requires c = search (rules, reaches)
 
-returns : tie.Need-returns
-returns c = search (rules, over_zeros)
+pub returns-then-reach : goal.returns-then-reach
+returns-then-reach c = search (rules, over_zeros)
 
-returns-2 : tie.Need-returns-2
-returns-2 c = search (rules, over_zeros)
-
-pub weigh-spec : {M : Type 1} → statement M
-weigh-spec =
-    tie.close
-    (tie.spec
-    (λ c κs. search rules)
-    weigh-within-requires
-    (λ c κs. search rules)
-    returns
-    returns-2)
+pub returns-else-reach : goal.returns-else-reach
+returns-else-reach c = search (rules, over_zeros)
