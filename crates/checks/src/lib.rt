@@ -1,4 +1,6 @@
 // What a check of an input says. The lists of tests that it goes by are specs/Judge.antt's.
+#![tactic(auto)]
+
 use refusal::Refusal;
 
 #[derive(Drop)]

@@ -1,4 +1,6 @@
 // 000's `invert_matrix`: Gauss-Jordan elimination with partial pivoting on the augmented matrix [A | I].
+#![tactic(auto)]
+
 ghost use Rattle.std.specs.Prelude.{◌≡◌, ◌+◌, ◌*◌, ◌≤◌, ◌<◌, not};
 ghost use Rattle.std.specs.Float.Ieee.{lt};
 ghost use Rattle.gauss.specs.Gauss.{pivot_step, pivot_of, swap_rows, div_row, less_row, clear_row, cleared, reduced, gauss_step, least_pivot, try_step, eliminated};

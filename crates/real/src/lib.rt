@@ -1,4 +1,6 @@
 // Helpers on f64 that the Rust takes from its library, each with the meaning it has there.
+#![tactic(auto)]
+
 ghost use Rattle.std.specs.Prelude.{◌≡◌, ◌*◌, ◌^◌, ◌<◌, ◌≤◌, min, max, false, ◌&&◌, T, length, take, from_bits};
 ghost use Rattle.std.specs.Float.{binary64};
 ghost use Rattle.std.specs.Float.Ieee.{lt};
@@ -151,8 +153,8 @@ fn clamp_count(n: u64, lo: usize, hi: usize) -> usize
 
 // The whole number nearest to x, halves up, for x above 0 and below 2^32: there x less its whole part is exact.
 fn rounded(x: f64) -> u64
-    requires t { T (lt zero64 x) }
-    requires t_2 { T (lt x (from_bits binary64 0x41F0_0000_0000_0000)) }
+    requires positive { T (lt zero64 x) }
+    requires below_2_to_32 { T (lt x (from_bits binary64 0x41F0_0000_0000_0000)) }
     ensures { result ≡ round_whole x }
 {
     let t = std::num::truncating_f64_to_u64(x);

@@ -1,8 +1,10 @@
 // The refusals of documents 01 and 02. Their numbers stand here and in specs/Numbers.antt, and nowhere else.
+#![tactic(auto)]
+
 ghost use Rattle.std.specs.Prelude.{◌≡◌};
 ghost use Rattle.refusal.specs.Numbers.{refusal_number};
 
-#[derive(Drop)]
+#[derive(Clone, Copy)]
 pub enum Refusal {
     // From the input.
     NoCoordinates,

@@ -2,6 +2,8 @@
 //
 // A positive finite x is n * 2^-1074. `split` takes n apart into a significand a of 53 or 54 digits and half the length of n;
 // `quick` finds the number of 53 digits nearest to the root of a * 2^52; `positive` puts the result's pattern together.
+#![tactic(auto)]
+
 ghost use Rattle.std.specs.Prelude.{◌≡◌, true, ◌+◌, ◌*◌, ◌^◌, ◌≤◌, ◌<◌};
 ghost use Rattle.std.specs.Float.Ieee.{lt, size};
 ghost use Rattle.real.specs.Reals.{zero64, inf64};
@@ -16,7 +18,7 @@ pub use guessing::guess;
 use settling::quick;
 
 // The leading digits of a number, 53 or 54 of them, and half its length in digits.
-#[derive(Drop)]
+#[derive(Clone, Copy)]
 struct Parts {
     a: u64,
     h: u64,

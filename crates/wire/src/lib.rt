@@ -1,4 +1,6 @@
 // Numbers as 8 little-endian bytes, and reals by their bits.
+#![tactic(auto)]
+
 ghost use Rattle.std.specs.Prelude.{◌≡◌, ◌++◌, ◌+◌, ◌*◌, ◌^◌, ◌≤◌, ◌<◌, length, take, drop};
 ghost use Rattle.wire.specs.Wire.{bits_of, real_of, bytes_of, number_of, load_of, reals, real_bytes};
 

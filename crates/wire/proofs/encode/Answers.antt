@@ -1,0 +1,14 @@
+-- `wire::encode` meets its contract.
+use borrow.Author.Rules.{rules}
+use Rattle.wire.proofs.Encoding.{start, next, done}
+use Rattle.wire.proofs.encode.Goals as goal
+
+pub loop-k-init : goal.loop-k-init
+loop-k-init c = start
+
+pub loop-k-preserved : goal.loop-k-preserved
+loop-k-preserved c =
+    next c.loop-k.invariant (search rules) (search rules) c.bits_of.ensures c.store.ensures (search rules)
+
+pub returns : goal.returns
+returns c = done c.loop-k.invariant (search rules)
