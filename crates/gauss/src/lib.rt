@@ -6,7 +6,7 @@ ghost use Rattle.std.specs.Float.Ieee.{lt};
 ghost use Rattle.gauss.specs.Gauss.{pivot_step, pivot_of, swap_rows, div_row, less_row, clear_row, cleared, reduced, gauss_step, least_pivot, try_step, eliminated};
 
 // The row and the magnitude of a pivot.
-#[derive(Drop)]
+#[derive(Clone, Copy)]
 pub struct Pivot {
     pub row: usize,
     pub val: f64,
