@@ -1,5 +1,4 @@
 -- `gateway::zescolumba_fit`: what `calls::fit_bytes` says, said on. Written out so that another call is refused at once.
-use borrow.Author.Rules.{rules}
 use Rattle.gateway.proofs.zescolumba_fit.Goals as goal
 
 pub returns : goal.returns
