@@ -1,4 +1,6 @@
 // Distance and kernel weight.
+#![tactic(auto)]
+
 ghost use Rattle.std.specs.Prelude.{◌≡◌, cond};
 ghost use Rattle.std.specs.Float.Ieee.{eq};
 ghost use Rattle.real.specs.Reals.{zero64, one64};

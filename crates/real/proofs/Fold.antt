@@ -1,5 +1,5 @@
 -- A loop `for i in a..b` that folds f: its invariant as a record, and the laws that the loop's needs ask.
-use Rattle.std.proofs.Common.{◌≡◌, ℕ, zero, suc, ◌+◌, ◌-◌, ◌<◌, ◌≤◌, sym, refl, ap, ◌∙◌, le_antisymm, arith}
+use Rattle.std.proofs.Common.{◌≡◌, ℕ, zero, suc, ◌+◌, ◌-◌, ◌<◌, ◌≤◌, sym, ap, ◌∙◌, le_antisymm, arith}
 use native.Mathlib.Nat.{sub_self}
 use Rattle.real.specs.Fold.{turns, range}
 

@@ -1,4 +1,6 @@
 // What a job is: its bandwidth, its options, and its sizes. None of these changes while it is worked.
+#![tactic(auto)]
+
 ghost use Rattle.std.specs.Prelude.{◌≡◌};
 ghost use Rattle.setup.specs.Bandwidth.{Usable, report_value};
 ghost use Rattle.setup.specs.Options.{unguarded, default_options, judged_by};

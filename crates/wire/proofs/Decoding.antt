@@ -4,8 +4,8 @@ use mathlib.Core.List.{List, [], ◌∷◌, ◌++◌, append_assoc}
 use Prim.Native.Nat.{ℕ, zero, suc, ◌+◌, ◌*◌, ◌≤◌, ◌<◌}
 use native.Mathlib.Numerals.{add-one}
 use native.Mathlib.Omega.{arith}
-use lib.ListN.{length, take, drop, get_or, set, length-append, length-set}
-use lib.Seq.{drop-cons, set_at, append_snoc}
+use lib.ListN.{length, drop, get_or, set, length-append, length-set}
+use lib.Seq.{drop-cons, set_at}
 use lib.Ieee.{Float, nan}
 use Rattle.wire.specs.Wire.{reals, real_of, load_of}
 

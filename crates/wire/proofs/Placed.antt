@@ -1,12 +1,12 @@
 -- A row laid over a part of a list: a longer row in two steps, one element, and the loops that lay a row out.
-use mathlib.Core.Path.{◌≡◌, refl, sym, ap, ◌∙◌, subst}
-use mathlib.Core.List.{List, [], ◌∷◌, ◌++◌, append_assoc, append-nil}
-use Prim.Native.Nat.{ℕ, zero, suc, ◌+◌, ◌*◌, ◌-◌, ◌/◌, ◌%◌, ◌≤◌, ◌<◌}
+use mathlib.Core.Path.{◌≡◌, refl, sym, ap, ◌∙◌}
+use mathlib.Core.List.{List, [], ◌∷◌, ◌++◌, append_assoc}
+use Prim.Native.Nat.{ℕ, ◌+◌, ◌≤◌, ◌<◌}
 use native.Mathlib.Numerals.{add-one}
 use native.Mathlib.Omega.{arith}
-use lib.ListN.{length, take, drop, get_or, set, length-append, length-take, length-drop, length-set}
-use lib.Seq.{length-take-le, set_at, set_split, take_at, drop_at, drop-drop, paste, paste-suc, paste-zero, length-paste, take-length, get_or-drop}
-use Rattle.wire.specs.Wire.{placed, low_bytes}
+use lib.ListN.{length, take, drop, get_or, set, length-append, length-drop, length-set}
+use lib.Seq.{length-take-le, set_split, take_at, drop_at, drop-drop, paste, paste-suc, paste-zero, take-length}
+use Rattle.wire.specs.Wire.{placed}
 
 module _ {A : Type 0} where
   pub length_placed : (d : List A) (at : ℕ) (row : List A) → at + length row ≤ length d → length (placed d at row) ≡ length d

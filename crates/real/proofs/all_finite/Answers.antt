@@ -1,5 +1,5 @@
 -- `real::all_finite` meets its contract.
-use Rattle.std.proofs.Common.{◌∙◌, rules}
+use Rattle.std.proofs.Common.{◌∙◌}
 use Rattle.real.specs.Finite.{all_of}
 use Rattle.real.proofs.all_finite.Goals as goal
 

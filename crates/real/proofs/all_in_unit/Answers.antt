@@ -1,7 +1,6 @@
 -- `real::all_in_unit` meets its contract.
-use Rattle.std.proofs.Common.{◌-◌, length, rules}
-use Rattle.real.specs.Finite.{in_unit}
-use Rattle.real.proofs.Finite.{Passed, none, more, done}
+use Rattle.std.proofs.Common.{rules}
+use Rattle.real.proofs.Finite.{none, more, done}
 use Rattle.real.proofs.all_in_unit.Goals as goal
 
 pub loop-i-init : goal.loop-i-init

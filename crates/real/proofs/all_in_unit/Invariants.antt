@@ -1,7 +1,7 @@
 -- `real::all_in_unit` meets its contract.
-use Rattle.std.proofs.Common.{◌-◌, length, rules}
+use Rattle.std.proofs.Common.{◌-◌, length}
 use Rattle.real.specs.Finite.{in_unit}
-use Rattle.real.proofs.Finite.{Passed, none, more, done}
+use Rattle.real.proofs.Finite.{Passed}
 use Rattle.real.proofs.all_in_unit.Given as goal
 
 abbrev pub invariant-loop-i : goal.invariant-loop-i

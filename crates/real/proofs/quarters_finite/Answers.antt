@@ -1,7 +1,7 @@
 -- `real::quarters_finite` meets its contract.
-use Rattle.std.proofs.Common.{◌-◌, rules}
+use Rattle.std.proofs.Common.{rules}
 use lib.Ieee.Scale.{finite}
-use Rattle.real.proofs.Finite.{Fours, no_fours, more_fours, all_fours}
+use Rattle.real.proofs.Finite.{no_fours, more_fours, all_fours}
 use Rattle.real.proofs.quarters_finite.Goals as goal
 
 pub loop-i-init : goal.loop-i-init

@@ -1,7 +1,7 @@
 -- `real::quarters_finite` meets its contract.
-use Rattle.std.proofs.Common.{◌-◌, rules}
+use Rattle.std.proofs.Common.{◌-◌}
 use lib.Ieee.Scale.{finite}
-use Rattle.real.proofs.Finite.{Fours, no_fours, more_fours, all_fours}
+use Rattle.real.proofs.Finite.{Fours}
 use Rattle.real.proofs.quarters_finite.Given as goal
 
 abbrev pub invariant-loop-i : goal.invariant-loop-i

@@ -1,6 +1,6 @@
 -- `real::rest_finite` meets its contract.
-use Rattle.std.proofs.Common.{◌-◌, length, rules}
-use Rattle.real.proofs.Finite.{Multiplied, times_none, times_more, times_done}
+use Rattle.std.proofs.Common.{rules}
+use Rattle.real.proofs.Finite.{times_none, times_more, times_done}
 use Rattle.real.proofs.rest_finite.Goals as goal
 
 pub loop-i-init : goal.loop-i-init

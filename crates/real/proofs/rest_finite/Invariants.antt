@@ -1,6 +1,6 @@
 -- `real::rest_finite` meets its contract.
-use Rattle.std.proofs.Common.{◌-◌, length, rules}
-use Rattle.real.proofs.Finite.{Multiplied, times_none, times_more, times_done}
+use Rattle.std.proofs.Common.{◌-◌, length}
+use Rattle.real.proofs.Finite.{Multiplied}
 use Rattle.real.proofs.rest_finite.Given as goal
 
 abbrev pub invariant-loop-i : goal.invariant-loop-i

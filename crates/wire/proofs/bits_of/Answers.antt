@@ -1,5 +1,4 @@
 -- `wire::bits_of` meets its contract.
-use borrow.Author.Rules.{rules}
 use mathlib.Core.Path.{sym}
 use Rattle.wire.proofs.Floats.{is_number, is_nan_lem, bits_of_is}
 use Rattle.wire.proofs.bits_of.Goals as goal

@@ -1,9 +1,8 @@
 -- `wire::decode` meets its contract.
 use borrow.Author.Rules.{rules}
-use Prim.Native.Nat.{◌-◌}
 use mathlib.Core.Path.{◌∙◌, ap}
 use Rattle.wire.specs.Wire.{real_of}
-use Rattle.wire.proofs.Decoding.{Decoding, start, next, done}
+use Rattle.wire.proofs.Decoding.{start, next, done}
 use Rattle.wire.proofs.decode.Goals as goal
 
 pub loop-i-init : goal.loop-i-init

@@ -1,7 +1,6 @@
 -- `wire::encode` meets its contract.
 use borrow.Author.Rules.{rules}
-use Prim.Native.Nat.{◌-◌}
-use Rattle.wire.proofs.Encoding.{Encoding, start, next, done}
+use Rattle.wire.proofs.Encoding.{start, next, done}
 use Rattle.wire.proofs.encode.Goals as goal
 
 pub loop-k-init : goal.loop-k-init

@@ -1,7 +1,6 @@
 -- `wire::encode` meets its contract.
-use borrow.Author.Rules.{rules}
 use Prim.Native.Nat.{◌-◌}
-use Rattle.wire.proofs.Encoding.{Encoding, start, next, done}
+use Rattle.wire.proofs.Encoding.{Encoding}
 use Rattle.wire.proofs.encode.Given as goal
 
 abbrev pub invariant-loop-k : goal.invariant-loop-k

@@ -1,5 +1,4 @@
 -- `wire::load` meets its contract.
-use borrow.Author.Rules.{rules}
 use native.Mathlib.Omega.{arith}
 use Rattle.wire.proofs.Numbers.{load_of_halves}
 use Rattle.wire.proofs.load.Goals as goal

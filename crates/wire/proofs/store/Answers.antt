@@ -1,7 +1,6 @@
 -- `wire::store` meets its contract.
 use borrow.Author.Rules.{rules}
-use Prim.Native.Nat.{◌-◌}
-use Rattle.wire.proofs.Storing.{Storing, start, next, done}
+use Rattle.wire.proofs.Storing.{start, next, done}
 use Rattle.wire.proofs.store.Goals as goal
 
 pub loop-k-init : goal.loop-k-init

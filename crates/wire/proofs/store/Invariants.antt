@@ -1,7 +1,6 @@
 -- `wire::store` meets its contract.
-use borrow.Author.Rules.{rules}
 use Prim.Native.Nat.{◌-◌}
-use Rattle.wire.proofs.Storing.{Storing, start, next, done}
+use Rattle.wire.proofs.Storing.{Storing}
 use Rattle.wire.proofs.store.Given as goal
 
 abbrev pub invariant-loop-k : goal.invariant-loop-k

@@ -1,5 +1,4 @@
 -- `refusal::number` meets its contract.
-use borrow.Author.Rules.{rules}
 use mathlib.Core.Path.{sym, ap}
 use Rattle.refusal.specs.Numbers.{refusal_number}
 use Rattle.refusal.proofs.Refusal.number.Goals as goal

@@ -2,9 +2,8 @@
 use Rattle.std.proofs.Common.{refl}
 use lib.Ieee.{of_int, of_bits}
 use Rattle.elementary.specs.Ln.{ln_step, ln_steps, ln_series}
-use Rattle.elementary.proofs.ln_series.Statement.{statement}
-use Rattle.elementary.proofs.ln_series.Tie as tie
+use Rattle.elementary.proofs.ln_series.Goals as goal
 
-pub ln-series-spec : {M : Type 1} → statement M
+pub returns : goal.returns
 unfolding ln_series ln_steps ln_step of_int of_bits
-ln-series-spec = tie.close (tie.spec (λ c. refl))
+returns c = refl

@@ -2,9 +2,8 @@
 use Rattle.std.proofs.Common.{refl}
 use lib.Ieee.{of_int, of_bits}
 use Rattle.elementary.specs.Exp.{exp_step, exp_steps}
-use Rattle.elementary.proofs.exp_steps.Statement.{statement}
-use Rattle.elementary.proofs.exp_steps.Tie as tie
+use Rattle.elementary.proofs.exp_steps.Goals as goal
 
-pub exp-steps-spec : {M : Type 1} → statement M
+pub returns : goal.returns
 unfolding exp_steps exp_step of_int of_bits
-exp-steps-spec = tie.close (tie.spec (λ c. refl))
+returns c = refl

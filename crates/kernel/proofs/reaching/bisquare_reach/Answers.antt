@@ -8,8 +8,7 @@ use Rattle.real.specs.Reals.{zero64}
 use Rattle.root.specs.Root.{root}
 use Rattle.kernel.specs.Weight.{unusable}
 use Rattle.kernel.specs.Reach.{bisquare_reach}
-use Rattle.kernel.proofs.reaching.bisquare_reach.Statement.{statement}
-use Rattle.kernel.proofs.reaching.bisquare_reach.Tie as tie
+use Rattle.kernel.proofs.reaching.bisquare_reach.Goals as goal
 
 module _ (b : Float) where
   endless : finite b ≡ false → nan ≡ bisquare_reach b
@@ -25,14 +24,28 @@ module _ (b : Float) where
   unfolding bisquare_reach unusable
   judged f h e j = sym (rw (f, h, sym (ap (le b) e) ∙ j))
 
-pub bisquare-reach-spec : {M : Type 1} → statement M
+pub is_finite-usable-requires : goal.is_finite-usable-requires
 unfolding div of_bits
-bisquare-reach-spec =
-    tie.close
-    (tie.spec
-    (λ c κs. search rules)
-    (λ c. low _ (sym c.before.before.is_finite.ensures ∙ c.before.if1.true) c.if2.true)
-    (λ c κs. search rules)
-    (λ c. judged _ (sym c.before.before.before.before.is_finite.ensures ∙ c.before.before.before.if1.true) c.before.before.if2.false c.before.sqrt.ensures c.if3.true)
-    (λ c. judged _ (sym c.before.before.before.before.is_finite.ensures ∙ c.before.before.before.if1.true) c.before.before.if2.false c.before.sqrt.ensures c.if3.false)
-    (λ c. endless _ (sym c.before.is_finite.ensures ∙ c.if1.false)))
+is_finite-usable-requires c = search rules
+
+pub returns-then-b : goal.returns-then-b
+unfolding div of_bits
+returns-then-b c = low _ (sym c.is_finite-usable.ensures ∙ c.if-usable.true) c.if-b.true
+
+pub sqrt-requires : goal.sqrt-requires
+unfolding div of_bits
+sqrt-requires c = search rules
+
+pub returns-then-sqrt-b : goal.returns-then-sqrt-b
+unfolding div of_bits
+returns-then-sqrt-b c =
+    judged _ (sym c.is_finite-usable.ensures ∙ c.if-usable.true) c.if-b.false c.sqrt.ensures c.if-sqrt-b.true
+
+pub returns-else-sqrt-b : goal.returns-else-sqrt-b
+unfolding div of_bits
+returns-else-sqrt-b c =
+    judged _ (sym c.is_finite-usable.ensures ∙ c.if-usable.true) c.if-b.false c.sqrt.ensures c.if-sqrt-b.false
+
+pub returns-else-usable : goal.returns-else-usable
+unfolding div of_bits
+returns-else-usable c = endless _ (sym c.is_finite-usable.ensures ∙ c.if-usable.false)
