@@ -1,4 +1,6 @@
 // Between which bandwidths a search goes: 000's `fixed_bandwidth_bounds`, and the counts.
+#![tactic(auto)]
+
 ghost use Rattle.std.specs.Prelude.{◌≡◌, ◌*◌, ◌≤◌, ◌<◌, length};
 ghost use Rattle.setup.specs.Shape.{Sized};
 ghost use Rattle.bounds.specs.Bounds.{farther_from, greatest_distance, least_distance, usable_distance, least_count, greatest_count, bandwidth_at};

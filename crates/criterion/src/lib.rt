@@ -1,4 +1,6 @@
 // The corrected Akaike information criterion.
+#![tactic(auto)]
+
 ghost use Rattle.std.specs.Prelude.{◌≡◌, ◌^◌, ◌<◌};
 ghost use Rattle.real.specs.Arithmetic.{rounded};
 ghost use Rattle.elementary.specs.Ln.{lnv};
@@ -8,14 +10,14 @@ ghost use Rattle.criterion.specs.Aicc.{pi64, corrected_aic, criterion_of, exhaus
 use refusal::Refusal;
 use setup::{GwrCriterion, Setup};
 
-#[derive(Drop)]
+#[derive(Clone, Copy)]
 pub enum Criterion {
     Value(f64),
     Refused(Refusal),
 }
 
 // What a fit reports beside its rows.
-#[derive(Drop)]
+#[derive(Clone, Copy)]
 pub struct Summary {
     pub bandwidth: f64,
     pub aicc: f64,

@@ -12,14 +12,14 @@ mod inverse;
 pub use inverse::inverse_times;
 
 // Whether the coefficients were found.
-#[derive(Drop)]
+#[derive(Clone, Copy)]
 pub enum Estimate {
     Fitted,
     Failed(Refusal),
 }
 
 // The coefficients, intercept first, stand beside that. They are zeros where it failed.
-#[derive(Drop)]
+#[derive(Clone, Copy)]
 pub struct Estimated {
     pub estimate: Estimate,
     pub beta: [f64; 8],

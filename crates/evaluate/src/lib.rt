@@ -8,7 +8,7 @@ ghost use Rattle.evaluate.specs.Evaluate.{inner_product, hat_diagonal, add_squar
 use setup::Setup;
 
 // What a local solve gives beside the coefficients.
-#[derive(Drop)]
+#[derive(Clone, Copy)]
 pub struct Values {
     pub predicted: f64,
     pub residual: f64,
@@ -17,7 +17,7 @@ pub struct Values {
 }
 
 // The weighted sums of squares about the mean and about the fit.
-#[derive(Drop)]
+#[derive(Clone, Copy)]
 pub struct Squares {
     pub total: f64,
     pub residual: f64,

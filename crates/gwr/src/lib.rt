@@ -12,14 +12,14 @@ use setup::{GwrBandwidth, GwrOptions, Setup};
 use sweep::Finish;
 
 // What a fit answers. A refusal from the input comes with nothing written; one met while solving keeps the rows before it.
-#[derive(Drop)]
+#[derive(Clone, Copy)]
 pub enum FitAnswer {
     Done(Finish),
     Rejected(Refusal),
 }
 
 // The answer, and the number of rows written.
-#[derive(Drop)]
+#[derive(Clone, Copy)]
 pub struct Fit {
     pub answer: FitAnswer,
     pub rows: usize,

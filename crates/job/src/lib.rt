@@ -7,14 +7,14 @@ use sweep::Finish;
 pub use turns::turn;
 
 // What a turn answers. Only `Refused` is a refused turn.
-#[derive(Drop)]
+#[derive(Clone, Copy)]
 pub enum Answer {
     Working,
     Ended(Finish),
     Refused(Refusal),
 }
 
-#[derive(Drop)]
+#[derive(Clone, Copy)]
 pub struct Turned {
     pub answer: Answer,
     pub steps: u32,

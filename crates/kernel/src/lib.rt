@@ -14,7 +14,7 @@ mod reaching;
 pub use reaching::{guess_distance, settle_distance};
 
 // 000's three spatial kernels.
-#[derive(Drop)]
+#[derive(Clone, Copy)]
 pub enum GwrKernel {
     Gaussian,
     Bisquare,
@@ -85,7 +85,7 @@ pub fn distance(ax: f64, ay: f64, bx: f64, by: f64) -> f64
 }
 
 // What the public weight call answers.
-#[derive(Drop)]
+#[derive(Clone, Copy)]
 pub enum Weighed {
     Weight(f64),
     // The distance is negative or NaN.

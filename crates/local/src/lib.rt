@@ -6,14 +6,14 @@ mod solve;
 
 pub use solve::solve_location;
 
-#[derive(Drop)]
+#[derive(Clone, Copy)]
 pub enum Outcome {
     Found(Values),
     Refused(Refusal),
 }
 
 // A location solved: the coefficients, intercept first, stand beside the outcome. They are zeros where it is refused.
-#[derive(Drop)]
+#[derive(Clone, Copy)]
 pub struct Solved {
     pub outcome: Outcome,
     pub beta: [f64; 8],

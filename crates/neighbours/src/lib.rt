@@ -14,7 +14,7 @@ mod walk;
 pub use walk::{Walker, begin, found_by, walk_on};
 
 // The pantry that stands at the place itself and is left out, if it is one.
-#[derive(Drop)]
+#[derive(Clone, Copy)]
 pub enum Own {
     At(usize),
     Nobody,

@@ -7,7 +7,7 @@ ghost use Rattle.neighbours.specs.Walk.{Holds, is_own, pass, walk_on, found_by, 
 use crate::Own;
 
 // How far a walk has come: how many sums stand in its buffer, and the greatest of them.
-#[derive(Drop)]
+#[derive(Clone, Copy)]
 pub struct Walker {
     pub met: usize,
     pub greatest: f64,

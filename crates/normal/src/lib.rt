@@ -1,4 +1,6 @@
 // The weighted normal equations of a local fit, and the matrix that 000's `invert_matrix` starts with.
+#![tactic(auto)]
+
 mod augmented;
 mod design;
 mod equations;

@@ -6,14 +6,14 @@ use refusal::Refusal;
 use setup::GwrBandwidth;
 
 // What an accepted job does: it fits at a bandwidth, or seeks one from lo to hi first.
-#[derive(Drop)]
+#[derive(Clone, Copy)]
 pub enum Plan {
     Settled(GwrBandwidth),
     Sought(f64, f64),
 }
 
 // What is said of an input: its first refusal, or what the job does.
-#[derive(Drop)]
+#[derive(Clone, Copy)]
 pub enum Acceptance {
     Refused(Refusal),
     Planned(Plan),

@@ -10,13 +10,13 @@ use refusal::Refusal;
 use setup::{GwrBandwidth, GwrOptions};
 
 // Options from their numbers, of which 18 refuses the unknown.
-#[derive(Drop)]
+#[derive(Clone, Copy)]
 pub enum Choice {
     Known(GwrOptions),
     Unknown,
 }
 
-#[derive(Drop)]
+#[derive(Clone, Copy)]
 pub enum KernelChoice {
     Known(GwrKernel),
     Unknown,

@@ -18,7 +18,7 @@ pub use guessing::guess;
 use settling::quick;
 
 // The leading digits of a number, 53 or 54 of them, and half its length in digits.
-#[derive(Drop)]
+#[derive(Clone, Copy)]
 struct Parts {
     a: u64,
     h: u64,

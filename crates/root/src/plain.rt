@@ -4,7 +4,7 @@ ghost use Rattle.root.specs.Root.{nearest_root};
 ghost use Rattle.root.specs.Parts.{Rooted};
 
 // The whole root of a number and what is left: q * q + rem is the number.
-#[derive(Drop)]
+#[derive(Clone, Copy)]
 struct Root {
     q: u64,
     rem: u64,

@@ -8,14 +8,14 @@ pub use seeking::optimize_bandwidth;
 use setup::GwrBandwidth;
 
 // A trial's score, and the solves that it took.
-#[derive(Drop)]
+#[derive(Clone, Copy)]
 pub struct Trial {
     pub score: f64,
     pub solves: u64,
 }
 
 // A search: its bracket, whether the bracket has become too narrow to go on, and the solves of all its trials.
-#[derive(Drop)]
+#[derive(Clone, Copy)]
 pub struct Search {
     pub bracket: Bracket,
     pub over: bool,
@@ -23,7 +23,7 @@ pub struct Search {
 }
 
 // The bandwidth that a search found, and its solves.
-#[derive(Drop)]
+#[derive(Clone, Copy)]
 pub struct Optimum {
     pub bandwidth: GwrBandwidth,
     pub solves: u64,

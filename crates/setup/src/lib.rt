@@ -8,7 +8,7 @@ ghost use Rattle.setup.specs.Options.{unguarded, default_options, judged_by};
 use kernel::GwrKernel;
 
 // 000's bandwidth: a distance, or a number of neighbours.
-#[derive(Drop)]
+#[derive(Clone, Copy)]
 pub enum GwrBandwidth {
     Fixed(f64),
     AdaptiveKnn(usize),
@@ -28,14 +28,14 @@ impl GwrBandwidth {
 }
 
 // How AICc is judged where more is spent than the degrees of freedom: worked as it falls, as in 000, or plus infinity.
-#[derive(Drop)]
+#[derive(Clone, Copy)]
 pub enum GwrCriterion {
     Unguarded,
     Guarded,
 }
 
 // 000's options, and the criterion.
-#[derive(Drop)]
+#[derive(Clone, Copy)]
 pub struct GwrOptions {
     pub kernel: GwrKernel,
     pub bandwidth: GwrBandwidth,
@@ -81,7 +81,7 @@ impl GwrOptions {
 }
 
 // The options, n observations and p predictors of a job.
-#[derive(Drop)]
+#[derive(Clone, Copy)]
 pub struct Setup {
     pub options: GwrOptions,
     pub n: usize,

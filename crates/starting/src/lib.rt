@@ -11,13 +11,13 @@ use setup::{GwrBandwidth, GwrOptions, Setup};
 use stepping::{Job, Stage};
 
 // What beginning answers; a refused one makes no job.
-#[derive(Drop)]
+#[derive(Clone, Copy)]
 pub enum Beginning {
     Ready,
     Refused(Refusal),
 }
 
-#[derive(Drop)]
+#[derive(Clone, Copy)]
 pub struct Begun {
     pub answer: Beginning,
     pub job: Job,

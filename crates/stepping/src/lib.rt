@@ -12,7 +12,7 @@ use setup::{GwrBandwidth, Setup};
 use sweep::Sweep;
 
 // What a job is at: its first trial, its second, a round's, its final fit; or it has ended.
-#[derive(Drop)]
+#[derive(Clone, Copy)]
 pub enum Stage {
     First,
     Second,
@@ -63,14 +63,14 @@ impl Stage {
 }
 
 // The search so far: the bracket, and how many trials were made.
-#[derive(Drop)]
+#[derive(Clone, Copy)]
 pub struct Trials {
     pub bracket: Bracket,
     pub made: usize,
 }
 
 // The job record.
-#[derive(Drop)]
+#[derive(Clone, Copy)]
 pub struct Job {
     pub setup: Setup,
     pub stage: Stage,

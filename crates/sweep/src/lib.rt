@@ -14,7 +14,7 @@ use refusal::Refusal;
 use setup::{GwrBandwidth, Setup};
 
 // How far a sweep has come: the location that it is at, trace of the hat matrix and sum of squared residuals before it.
-#[derive(Drop)]
+#[derive(Clone, Copy)]
 pub struct Sweep {
     pub location: usize,
     pub trace: f64,
@@ -73,13 +73,13 @@ impl Sweep {
 }
 
 // Whether a sweep goes on.
-#[derive(Drop)]
+#[derive(Clone, Copy)]
 pub enum Course {
     Going,
     Stopped(Refusal),
 }
 
-#[derive(Drop)]
+#[derive(Clone, Copy)]
 pub struct Swept {
     pub course: Course,
     pub sweep: Sweep,
@@ -189,7 +189,7 @@ pub fn fit_all_locations(
 }
 
 // What a fit that was made answers: fitted, or failed with a refusal met while solving.
-#[derive(Drop)]
+#[derive(Clone, Copy)]
 pub enum Finish {
     Fitted(Summary),
     Failed(Refusal, Summary),

@@ -1,4 +1,6 @@
 // The weights of the observations, seen from a place.
+#![tactic(auto)]
+
 ghost use Rattle.std.specs.Prelude.{◌≡◌, replicate};
 ghost use Rattle.real.specs.Reals.{zero64};
 ghost use Rattle.setup.specs.Data.{trusted_data};
