@@ -80,7 +80,7 @@ pub data Among (b : Bool) (r : Refusal) : List (Bool × Refusal) → Type 0 wher
   later : {t : Bool × Refusal} {l : List (Bool × Refusal)} → Among b r l → Among b r (t ∷ l)
 
 -- of a list of which none holds, this one does not
-pub none_among : {b : Bool} {l : List (Bool × Refusal)} (r : Refusal) → NoneOf l → Among b r l → b ≡ false
+pub none_among : {b : Bool} (r : Refusal) {l : List (Bool × Refusal)} → NoneOf l → Among b r l → b ≡ false
 none_among r h here = (none_head _ _ _ h).0
 none_among r h (later a) = none_among r (none_head _ _ _ h).1 a
 

@@ -1,4 +1,6 @@
 // The count of neighbours where no search is asked for.
+#![tactic(auto)]
+
 ghost use Rattle.std.specs.Prelude.{◌≡◌, ◌≤◌};
 ghost use Rattle.counts.specs.Count.{ceil_root, chosen_count, resolve_count};
 

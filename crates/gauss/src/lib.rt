@@ -1,10 +1,12 @@
 // 000's `invert_matrix`: Gauss-Jordan elimination with partial pivoting on the augmented matrix [A | I].
+#![tactic(auto)]
+
 ghost use Rattle.std.specs.Prelude.{◌≡◌, ◌+◌, ◌*◌, ◌≤◌, ◌<◌, not};
 ghost use Rattle.std.specs.Float.Ieee.{lt};
 ghost use Rattle.gauss.specs.Gauss.{pivot_step, pivot_of, swap_rows, div_row, less_row, clear_row, cleared, reduced, gauss_step, least_pivot, try_step, eliminated};
 
 // The row and the magnitude of a pivot.
-#[derive(Drop)]
+#[derive(Clone, Copy)]
 pub struct Pivot {
     pub row: usize,
     pub val: f64,

@@ -1,4 +1,6 @@
 // Which of some numbers is the m-th smallest, by counting: how many are at most a number, and how many below it.
+#![tactic(auto)]
+
 ghost use Rattle.std.specs.Prelude.{◌≡◌, cond, ◌⊎◌, ◌≤◌, T};
 ghost use Rattle.selection.specs.Kth.{at_most, fewer, is_kth, kth_smallest};
 
@@ -43,7 +45,7 @@ fn is_kth(s: &[f64; 512], n: usize, m: usize, v: f64) -> bool
 
 // Where a number is looked for: from lo on and below hi, and how many numbers are below either. What makes and narrows a bracket
 // claims nothing of it, since `select` judges what comes of it.
-#[derive(Drop)]
+#[derive(Clone, Copy)]
 struct Bracket {
     lo: f64,
     below_lo: f64,

@@ -1,0 +1,18 @@
+-- `gauss::div_row` meets its contract.
+use borrow.Author.Rules.{rules}
+use Rattle.real.proofs.Fold.{none, more, done}
+use mathlib.Core.Path.{refl}
+use Rattle.gauss.specs.Gauss.{div_step, div_row}
+use Rattle.gauss.proofs.div_row.Goals as goal
+
+pub loop-j-init : goal.loop-j-init
+unfolding div_step div_row
+loop-j-init c = none (search rules)
+
+pub loop-j-preserved : goal.loop-j-preserved
+unfolding div_step div_row
+loop-j-preserved c = more c.loop-j.invariant (search rules) refl
+
+pub returns : goal.returns
+unfolding div_step div_row
+returns c = done c.loop-j.invariant (search rules)

@@ -1,0 +1,17 @@
+-- `selection::at_most` meets its contract.
+use borrow.Author.Rules.{rules}
+use Rattle.selection.specs.Kth.{at_most}
+use Rattle.selection.proofs.Counts.{counting, passes, fails, counted}
+use Rattle.selection.proofs.at_most.Goals as goal
+use Rattle.selection.proofs.at_most.Goals.{then-s-j, else-s-j}
+
+pub loop-j-init : goal.loop-j-init
+loop-j-init c = counting _
+
+pub loop-j-preserved : goal.loop-j-preserved
+loop-j-preserved c =
+    elim c.if-s-j.branch [ then-s-j w ↦ rw w.c-is (search (rules, passes)) | else-s-j w ↦ rw w.c-is (search (rules, fails)) ]
+
+pub returns : goal.returns
+unfolding at_most
+returns c = search (rules, counted)

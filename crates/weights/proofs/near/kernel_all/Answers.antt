@@ -1,0 +1,21 @@
+-- `weights::near::kernel_all` meets its contract: the places before j hold weights, those from j on the distances still.
+use borrow.Author.Rules.{rules}
+use mathlib.Core.Path.{◌∙◌}
+use lib.ListN.{length-set}
+use Rattle.weights.proofs.Fills.{filled_none, filled_more, filled_over, unfilled_all, unfilled_more}
+use Rattle.weights.proofs.near.kernel_all.Goals as goal
+
+pub loop-j-init : goal.loop-j-init
+loop-j-init c = search (rules, filled_none, unfilled_all)
+
+pub loop-j-preserved : goal.loop-j-preserved
+loop-j-preserved c =
+    let s = c.loop-j in (
+      search rules,
+      length-set s.y s.j _ ∙ s.invariant.1,
+      filled_more _ s.y s.j _ s.invariant.2 (search rules) (c.weight.ensures ∙ rw (s.invariant.3.at s.j (search rules))),
+      unfilled_more _ s.y s.j _ s.invariant.3,
+    )
+
+pub returns : goal.returns
+returns c = search (rules, filled_over)
