@@ -1,4 +1,6 @@
 // The coefficients of a weighted fit at a place, from the weights of the observations seen from there.
+#![tactic(auto)]
+
 ghost use Rattle.std.specs.Prelude.{◌≡◌, ◌≤◌};
 ghost use Rattle.setup.specs.Data.{data_of};
 ghost use Rattle.setup.specs.Shape.{Shaped};

@@ -2,6 +2,8 @@
 //
 // The walk gathers sums of squares. The root keeps order, so the k-th smallest of them gives the k-th smallest distance, with one
 // root in all.
+#![tactic(auto)]
+
 ghost use Rattle.std.specs.Prelude.{◌≡◌, ◌*◌, ◌≤◌, ◌<◌, length};
 ghost use Rattle.setup.specs.Bandwidth.{Usable};
 ghost use Rattle.neighbours.specs.Walk.{nearest_from};

@@ -1,4 +1,6 @@
 // What a call asks for: options from their numbers, and byte lengths.
+#![tactic(auto)]
+
 ghost use Rattle.std.specs.Prelude.{◌≡◌, ◌*◌, ◌/◌, ◌≤◌, ◌<◌};
 ghost use Rattle.checks.specs.Judge.{judge};
 ghost use Rattle.request.specs.Options.{kernel_of, kind_of, chosen_of, options_of};
