@@ -1,4 +1,6 @@
 // What a fit says of the location that it was made for: prediction, residual, local R² and leverage.
+#![tactic(auto)]
+
 ghost use Rattle.std.specs.Prelude.{◌≡◌, ◌+◌, ◌*◌, ◌≤◌, ◌<◌, length};
 ghost use Rattle.setup.specs.Data.{data_of};
 ghost use Rattle.setup.specs.Shape.{Shaped};

@@ -240,6 +240,7 @@ fewer some p v = record { falls = λ x y i j. v.falls x y (p x i) (p y j); rises
 first_two : (x y z : Float) (l : List Float) → Among z (x ∷ y ∷ []) → Among z (x ∷ y ∷ l)
 first_two x y z l (inl e) = inl e
 first_two x y z l (inr (inl e)) = inr (inl e)
+first_two x y z l (inr (inr h)) = absurd h
 
 -- the points after a round are among those before it
 later_points : (g : Bracket) (s : Float) (l : List Float) (x : Float) → Among x ((narrow_of g s).c ∷ (narrow_of g s).d ∷ l) → Among x (g.c ∷ g.d ∷ aim_of g ∷ l)

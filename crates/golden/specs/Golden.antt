@@ -12,7 +12,7 @@ use Rattle.golden.specs.declared.Bracket.{Bracket}
 unfoldable pub inv_phi : Float
 inv_phi = div binary64 (sub binary64 (root (of_bits binary64 0x4014_0000_0000_0000)) one64) two64
 
--- 000's `inv_phi2`, 01's G2: G-as-G
+-- 000's `inv_phi2`, 01's G2: G·G
 unfoldable pub inv_phi2 : Float
 inv_phi2 = mul binary64 inv_phi inv_phi
 

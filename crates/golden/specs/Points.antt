@@ -8,7 +8,7 @@ use Rattle.golden.specs.Golden.{G, G2}
 
 -- ---- the formulas with the ratio g, 01's G, each operation in 000's order
 
--- c of the bracket from a to b: a + G2·(b - a), where G2 is G-as-G
+-- c of the bracket from a to b: a + G2·(b - a), where G2 is G·G
 abbrev pub lower_point : {R : Type 0} → Arithmetic R → R → R → R → R
 lower_point A g a b = A.plus a (A.times (A.times g g) (A.minus b a))
 

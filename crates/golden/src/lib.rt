@@ -1,9 +1,11 @@
 // Golden section search as a bracket that trials narrow.
+#![tactic(auto)]
+
 ghost use Rattle.std.specs.Prelude.{◌≡◌};
 ghost use Rattle.golden.specs.Golden.{no_bracket, start_of, first_of, second_of, goes_left, aim_of, improved_of, left_of, right_of, narrow_of, tight_of};
 
 // The bracket a b, its inner points c d, its width h, the scores of c and d, and the best point tried with its score.
-#[derive(Drop)]
+#[derive(Clone, Copy)]
 pub struct Bracket {
     pub a: f64,
     pub b: f64,

@@ -1,4 +1,6 @@
 // The header that `gwrprint` reads, how much it reads behind it, and which part is cut short.
+#![tactic(auto)]
+
 ghost use Rattle.std.specs.Prelude.{◌≡◌, ◌+◌, ◌*◌, ◌≤◌, ◌<◌, length};
 ghost use Rattle.checks.specs.Judge.{judge};
 ghost use Rattle.header.specs.Headers.{sized_header, header_of, parts_len};
@@ -10,7 +12,7 @@ use refusal::Refusal;
 use request::Choice;
 
 // The five numbers of a whole header that is not refused.
-#[derive(Drop)]
+#[derive(Clone, Copy)]
 pub struct Head {
     pub n: usize,
     pub p: usize,
@@ -19,7 +21,7 @@ pub struct Head {
     pub bandwidth: u64,
 }
 
-#[derive(Drop)]
+#[derive(Clone, Copy)]
 pub enum Header {
     Whole(Head),
     Refused(Refusal),

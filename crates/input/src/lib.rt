@@ -1,4 +1,6 @@
 // The input checks in document 01's order: lists of tests, each read from its top, so that a further refusal is one line.
+#![tactic(auto)]
+
 ghost use Rattle.std.specs.Prelude.{◌≡◌, ◌&&◌, ◌*◌, ◌≤◌, length};
 ghost use Rattle.std.specs.Float.Ieee.Scale.{finite};
 ghost use Rattle.real.specs.Finite.{all_finite, in_unit, all_in_unit};

@@ -1,4 +1,6 @@
 // One location solved: weights, coefficients, and what they say there.
+#![tactic(auto)]
+
 use evaluate::Values;
 use refusal::Refusal;
 

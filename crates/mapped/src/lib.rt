@@ -1,4 +1,6 @@
 // Square roots and exponentials of many numbers in place, so that a timing of one has no call's cost in it; for crates/measured.
+#![tactic(auto)]
+
 ghost use Rattle.std.specs.Prelude.{◌≡◌, map, ◌≤◌, length};
 ghost use Rattle.root.specs.Root.{root};
 ghost use Rattle.elementary.specs.Exp.{expv};

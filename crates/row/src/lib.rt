@@ -1,4 +1,6 @@
 // The output row of a location.
+#![tactic(auto)]
+
 ghost use Rattle.std.specs.Prelude.{◌≡◌, ◌++◌, ◌+◌, ◌*◌, ◌≤◌, ◌<◌, length, take, drop};
 ghost use Rattle.row.specs.Row.{row_of, put_row};
 

@@ -2,14 +2,14 @@
 use mathlib.Core.Path.{◌≡◌, refl, sym, ap, ◌∙◌}
 use mathlib.Core.Bool.{Bool, true, false, cond}
 use mathlib.Core.List.{List, [], ◌∷◌, ◌++◌, append_assoc, append-nil}
-use Prim.Native.Nat.{ℕ, zero, suc, ◌+◌, ◌*◌, ◌/◌, ◌%◌, ◌≤◌, ◌<◌}
+use Prim.Native.Nat.{ℕ, zero, suc, ◌+◌, ◌*◌, ◌/◌, ◌%◌, ◌≤◌}
 use native.Mathlib.Numerals.{add-one}
 use native.Mathlib.Nat.{add-zero}
 use native.Mathlib.Omega.{arith}
 use lib.Dec.{ltb}
 use lib.ListN.{length, length-append}
 use Rattle.wire.specs.Wire.{load_of}
-use Rattle.text.specs.Listing.{digit_of, hex_in, decimal_in, bits_text, count_text, bits_texts, summary_line, row_line, row_lines, loads, rows_of}
+use Rattle.text.specs.Listing.{digit_of, hex_in, decimal_in, bits_text, count_text, bits_texts, row_line, row_lines, loads, rows_of}
 
 pub length_hex_in : (n v : ℕ) → length (hex_in n v) ≡ n
 unfolding hex_in

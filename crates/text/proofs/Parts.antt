@@ -1,9 +1,9 @@
 -- The parts of a line: where each ends, and a space before a number.
-use mathlib.Core.Path.{◌≡◌, refl, sym, ap, subst, ◌∙◌}
-use mathlib.Core.List.{List, [], ◌∷◌, ◌++◌, append-nil}
-use Prim.Native.Nat.{ℕ, zero, suc, ◌+◌, ◌*◌, ◌≤◌, ◌<◌}
+use mathlib.Core.Path.{◌≡◌, refl, subst}
+use mathlib.Core.List.{List, [], ◌∷◌, ◌++◌}
+use Prim.Native.Nat.{ℕ, ◌+◌, ◌≤◌, ◌<◌}
 use native.Mathlib.Omega.{arith}
-use lib.ListN.{length, set, length-append, length-set}
+use lib.ListN.{length, set, length-append}
 use Rattle.text.specs.Listing.{digit_of, hex_in, decimal_in, bits_text, count_text, bits_texts, fit_word, row_word, newline, refused_line, summary_line, row_line, loads, WrittenText}
 use Rattle.text.proofs.Lines.{byte, and_then, and_byte}
 use Rattle.text.proofs.Lengths.{length_hex_in, length_decimal_in, length_bits_text, length_count_text, length_bits_texts, length_loads}

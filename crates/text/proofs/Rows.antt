@@ -1,14 +1,14 @@
 -- The loops over a row's numbers and over the rows.
-use mathlib.Core.Path.{◌≡◌, refl, sym, ap, ◌∙◌}
-use mathlib.Core.List.{List, [], ◌∷◌, ◌++◌, append_assoc, append-nil}
-use Prim.Native.Nat.{ℕ, zero, suc, ◌+◌, ◌*◌, ◌≤◌, ◌<◌}
+use mathlib.Core.Path.{◌≡◌, sym}
+use mathlib.Core.List.{List, ◌++◌}
+use Prim.Native.Nat.{ℕ, ◌+◌, ◌*◌, ◌≤◌, ◌<◌}
 use native.Mathlib.Nat.{le_trans, le_of_eq, suc-mul, mul-le-mul_right}
 use native.Mathlib.Omega.{arith}
-use lib.ListN.{length, set, length-append}
+use lib.ListN.{length, length-append}
 use Rattle.wire.specs.Wire.{load_of}
 use Rattle.text.specs.Listing.{bits_text, count_text, bits_texts, row_word, newline, row_line, row_lines, loads, rows_of, WrittenText}
 use Rattle.text.proofs.Lines.{start, and_then}
-use Rattle.text.proofs.Lengths.{length_bits_text, length_count_text, length_bits_texts, length_loads, bits_more, rows_more}
+use Rattle.text.proofs.Lengths.{length_count_text, length_bits_texts, length_loads, bits_more, rows_more}
 use Rattle.text.proofs.Parts.{bits_end}
 
 -- the first k of the numbers are written

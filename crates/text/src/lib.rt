@@ -1,4 +1,6 @@
 // The text of a listing, written into bytes that the caller lends. Each function writes from `at` on and answers where the text ends.
+#![tactic(auto)]
+
 ghost use Rattle.std.specs.Prelude.{◌≡◌, ◌+◌, ◌*◌, ◌≤◌, ◌<◌, length};
 ghost use Rattle.wire.specs.Wire.{load_of};
 ghost use Rattle.text.specs.Listing.{digit_of, hex_in, decimal_in, bits_text, count_text, bits_texts, refused_line, summary_line, row_line, row_lines, listing, loads, rows_of, WrittenText};
@@ -131,8 +133,8 @@ fn put_rows(text: &mut [u8], at: usize, out: &[u8], n: usize, width: usize) -> u
 
 // The listing of a fit: its line, and one for each row.
 pub fn put_fit(text: &mut [u8], summary: &[u8], out: &[u8], n: usize, width: usize) -> usize
-    requires n_in_bounds { (47 + 198 * n ≤ length text.old) × (n ≤ 1000000) × (width ≤ 11) × (8 * (n * width) ≤ length out.now) }
-    requires in_bounds { (24 ≤ length summary.now) × (load_of summary.now 16 < 1000000) }
+    requires rows_fit { (47 + 198 * n ≤ length text.old) × (n ≤ 1000000) × (width ≤ 11) × (8 * (n * width) ≤ length out.now) }
+    requires summary_fits { (24 ≤ length summary.now) × (load_of summary.now 16 < 1000000) }
     ensures { WrittenText text.old 0 (listing (load_of summary.now 0) (load_of summary.now 8) (load_of summary.now 16) (rows_of out.now width n)) text.new result }
 {
     let to = put_summary(&mut *text, summary);

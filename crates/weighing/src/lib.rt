@@ -1,4 +1,6 @@
 // The weight call on bytes.
+#![tactic(auto)]
+
 ghost use Rattle.std.specs.Prelude.{◌≡◌, ◌≤◌, ◌<◌, length};
 ghost use Rattle.weighing.specs.Weighing.{placed_weight, weighed_bytes, weight_bytes};
 
