@@ -1,4 +1,6 @@
 // What an accepted job is to do, and which inputs are accepted: a final fit at once, or a search first.
+#![tactic(auto)]
+
 mod planning; // what the options ask for, and the whole
 
 pub use planning::{accept, plan_options};

@@ -1,4 +1,6 @@
 // The bandwidth search: trials, each a sweep, and golden section over them.
+#![tactic(auto)]
+
 mod trials; // a trial at a bandwidth
 mod memory; // trials remembered, so that none is worked twice
 mod seeking; // golden section over the trials

@@ -50,7 +50,7 @@ pub fn trial_of(
     requires shaped { Shaped u (trusted_data coords.now x.now y.now trust.now) }
     requires remembered { Remembered u (trusted_data coords.now x.now y.now trust.now) tried.old scores.old }
     ensures value { result ≡ trial_of u (trusted_data coords.now x.now y.now trust.now) point }
-    ensures remembered_2 { Remembered u (trusted_data coords.now x.now y.now trust.now) tried.new scores.new }
+    ensures still_remembered { Remembered u (trusted_data coords.now x.now y.now trust.now) tried.new scores.new }
 {
     let b = bounds::bandwidth_at(u, point);
     let key = key_of(b);

@@ -24,7 +24,7 @@ fn opened_of(
     requires shaped { Shaped u (trusted_data coords.now x.now y.now trust.now) }
     requires remembered { Remembered u (trusted_data coords.now x.now y.now trust.now) tried.old scores.old }
     ensures value { result ≡ opened_of u (trusted_data coords.now x.now y.now trust.now) g }
-    ensures remembered_2 { Remembered u (trusted_data coords.now x.now y.now trust.now) tried.new scores.new }
+    ensures still_remembered { Remembered u (trusted_data coords.now x.now y.now trust.now) tried.new scores.new }
 {
     let first = trial_of(coords, x, y, trust, u, g.c, &mut *tried, &mut *scores);
     let second = trial_of(coords, x, y, trust, u, g.d, tried, scores);
@@ -53,7 +53,7 @@ fn round_of(
     requires remembered { Remembered u (trusted_data coords.now x.now y.now trust.now) tried.old scores.old }
     requires solves_bound { s.solves ≤ 512 * 102 }
     ensures value { result ≡ round_of u (trusted_data coords.now x.now y.now trust.now) r s }
-    ensures remembered_2 { Remembered u (trusted_data coords.now x.now y.now trust.now) tried.new scores.new }
+    ensures still_remembered { Remembered u (trusted_data coords.now x.now y.now trust.now) tried.new scores.new }
 {
     if s.over {
         return s;

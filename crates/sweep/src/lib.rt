@@ -1,5 +1,7 @@
 // A sweep over the locations at one bandwidth, 000's `fit_all_locations`, and what a fit answers of one. The uninterrupted fit
 // and the job share it.
+#![tactic(auto)]
+
 ghost use Rattle.std.specs.Prelude.{◌≡◌, ◌+◌, ◌*◌, ◌≤◌, ◌<◌, length};
 ghost use Rattle.setup.specs.Bandwidth.{Usable};
 ghost use Rattle.setup.specs.Data.{trusted_data};
