@@ -1,4 +1,6 @@
 // The uninterrupted fit, 000's `gwr_fit`: the input's checks, the search if there is one, and the final fit.
+#![tactic(auto)]
+
 ghost use Rattle.std.specs.Prelude.{◌≡◌, true, ◌*◌, ◌≤◌, length};
 ghost use Rattle.setup.specs.Bandwidth.{Usable};
 ghost use Rattle.setup.specs.Data.{trusted_data};

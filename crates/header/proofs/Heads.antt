@@ -4,11 +4,11 @@ use mathlib.Core.Bool.{false}
 use mathlib.Core.List.{List}
 use Prim.Native.Nat.{ℕ, ◌≤◌, ◌<◌}
 use native.Mathlib.Omega.{arith}
-use borrow.Author.Tests.{eqb-false, ltb-false, lt-ltb, le-ltb}
+use borrow.Author.Tests.{eq-eqb, ne_eqb, eqb-false, ltb-false, lt-ltb, le-ltb}
 use lib.ListN.{length}
 use Rattle.wire.specs.Wire.{load_of}
 use Rattle.refusal.specs.declared.Refusal.{Refusal}
-use Rattle.refusal.specs.declared.Refusal.TheVariants.{NoCoordinates, UnknownNumber}
+use Rattle.refusal.specs.declared.Refusal.TheVariants.{NoCoordinates, TooManyObservations, TooManyPredictors, UnknownNumber}
 use Rattle.setup.specs.declared.GwrOptions.{GwrOptions}
 use Rattle.checks.specs.declared.Check.{Check}
 use Rattle.checks.specs.declared.Check.TheVariants as check
@@ -39,6 +39,28 @@ module _ (s : List ℕ) (n p : ℕ) (en : n ≡ load_of s 0) (ep : p ≡ load_of
   sizes_whole kernel kind bandwidth f ek ed eb =
       let e : ◌≡◌ {A = Header} (Whole (record { n = n; p = p; kernel = kernel; kind = kind; bandwidth = bandwidth })) (Whole (head_of s)) = cc in
       e ∙ sym (ruled_pass Refused (Whole (head_of s)) f) ∙ sizes_are
+
+-- a size that is refused, and a header whose sizes are not
+module _ (s : List ℕ) where
+  pub sizes_none : load_of s 0 ≡ 0 → Refused NoCoordinates ≡ sized_header s
+  unfolding judge size_tests
+  sizes_none h = sizes_refused s _ _ refl refl NoCoordinates (rw (eq-eqb (load_of s 0) 0 h))
+
+  pub sizes_many : (load_of s 0 ≡ 0 → ⊥) → 512 < load_of s 0 → Refused TooManyObservations ≡ sized_header s
+  unfolding judge size_tests
+  sizes_many h k = sizes_refused s _ _ refl refl TooManyObservations (rw (ne_eqb (load_of s 0) 0 h, lt-ltb 512 (load_of s 0) k))
+
+  pub sizes_wide : (load_of s 0 ≡ 0 → ⊥) → load_of s 0 ≤ 512 → 7 < load_of s 8 → Refused TooManyPredictors ≡ sized_header s
+  unfolding judge size_tests
+  sizes_wide h k l =
+      sizes_refused s _ _ refl refl TooManyPredictors (rw (ne_eqb (load_of s 0) 0 h, le-ltb 512 (load_of s 0) k, lt-ltb 7 (load_of s 8) l))
+
+  pub sizes_served : (load_of s 0 ≡ 0 → ⊥) → load_of s 0 ≤ 512 → load_of s 8 ≤ 7 → Whole (head_of s) ≡ sized_header s
+  unfolding judge size_tests
+  sizes_served h k l =
+      sizes_whole s _ _ refl refl _ _ _ (rw (ne_eqb (load_of s 0) 0 h, le-ltb 512 (load_of s 0) k, le-ltb 7 (load_of s 8) l)) refl refl refl
+
+pub ruleset sizes = (sizes_none, sizes_many, sizes_wide, sizes_served)
 
 pub header_short : (s : List ℕ) → length s < 40 → Refused NoCoordinates ≡ header_of s
 unfolding header_of header_tests judge ruled

@@ -28,6 +28,7 @@ pub enum Header {
 }
 
 // The numbers of a header, or the refusal of a size.
+#[tactic(auto, using(crate::proofs::Heads::sizes))]
 fn sized_header(s: &[u8]) -> Header
     requires { 40 ≤ length s.now }
     ensures { result ≡ sized_header s.now }
@@ -54,6 +55,7 @@ fn sized_header(s: &[u8]) -> Header
 }
 
 // The header's numbers, and what is refused before reading on: 1 for a short header, then 18, an n of 0 or over 512, a p over 7.
+#[tactic(auto, using(crate::proofs::Heads::header_short))]
 pub fn header_of(s: &[u8]) -> Header
     ensures { result ≡ header_of s.now }
 {
