@@ -1,4 +1,6 @@
 // The fit call on bytes.
+#![tactic(auto)]
+
 ghost use Rattle.std.specs.Prelude.{◌≡◌, ◌+◌, ◌*◌, ◌/◌, ◌≤◌, ◌<◌, length, take};
 ghost use Rattle.wire.specs.Wire.{real_bytes, placed};
 ghost use Rattle.calls.specs.Calls.{room_of, summary_bytes, answer_bytes, fitted_bytes, fit_parts, fit_bytes, Roomy, Offered};
@@ -84,8 +86,8 @@ fn fitted_bytes(
     out: &mut [u8],
     summary: &mut [u8],
 ) -> u32
-    requires responses_len_bound { length responses.now ≤ 512 }
-    requires p_bound { (p ≤ 7) × Offered (length rows.old) (length out.old) (length summary.old) }
+    requires few { length responses.now ≤ 512 }
+    requires offered { (p ≤ 7) × Offered (length rows.old) (length out.old) (length summary.old) }
     ensures { (result, (out.new, summary.new)) ≡ fitted_bytes p (gwr_fit (trusting places.now predictors.now responses.now) p options rows.old) out.old summary.old }
 {
     let ones = [1.0; 512];

@@ -83,7 +83,7 @@ add_mag x y X Y fx fy NX NY NS ends hx hy =
     let f = in_fin (neg S) (add binary64 x y) S (neg_finite S (nat_fin S NS)) (nat_fin S NS) low high in
     (f, mag_of (add binary64 x y) S f NS low high)
 
--- |x·y| ≤ X-as-Y
+-- |x·y| ≤ X·Y
 mul_mags : (x y X Y : Float) → T (finite x) → T (finite y) → T (natural X) → T (natural Y) → T (natural (mul binary64 X Y)) → T (le (magnitude x) X) → T (le (magnitude y) Y)
     → T (finite (mul binary64 x y)) × T (le (magnitude (mul binary64 x y)) (mul binary64 X Y))
 mul_mags x y X Y fx fy NX NY NM hx hy =

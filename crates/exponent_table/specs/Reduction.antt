@@ -23,7 +23,7 @@ unfoldable pub exp_k : Float → ℕ
 unfolding to_unsigned sub mul of_bits
 exp_k v = to_unsigned 64 (sub binary64 half64 (mul binary64 v INV))
 
--- r = (v + K-as-HI) + K-as-LO
+-- r = (v + K·HI) + K·LO
 unfoldable pub exp_rest : Float → ℕ → Float
 unfolding add mul of_int of_bits
 exp_rest v k = add binary64 (add binary64 v (mul binary64 (from_count k) HI)) (mul binary64 (from_count k) LO)

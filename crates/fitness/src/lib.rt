@@ -1,4 +1,6 @@
 // Which records are fit: refusal 19 is the negation.
+#![tactic(auto)]
+
 ghost use Rattle.std.specs.Prelude.{◌≡◌, ◌&&◌, ◌≤◌, ◌<◌, leb};
 ghost use Rattle.setup.specs.Shape.{Sized};
 ghost use Rattle.fitness.specs.Fitness.{sizes_fit, kinds_fit, trials_fit, solves_fit, is_fit};
@@ -60,7 +62,7 @@ fn trials_fit(stage: Stage, made: usize) -> bool
 // Whether so many solves can have been made: at most n for each trial, and those of the sweep under way.
 fn solves_fit(j: Job) -> bool
     requires sized { Sized j.setup }
-    requires location_lt_n { (j.sweep.location < j.setup.n) × (j.trials.made ≤ 102) }
+    requires in_range { (j.sweep.location < j.setup.n) × (j.trials.made ≤ 102) }
     ensures { result ≡ solves_fit j }
 {
     let stage = j.stage;

@@ -1,4 +1,6 @@
 // A fit in turns: each turn makes so many steps of it as it is allowed.
+#![tactic(auto)]
+
 mod turns; // the refusals of a turn, and its run of steps
 
 use refusal::Refusal;

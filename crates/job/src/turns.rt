@@ -89,7 +89,7 @@ fn run(
 ) -> Turned
     requires sound { Sound 0 j }
     requires shaped { Shaped j.setup (trusted_data coords.now x.now y.now trust.now) }
-    requires p_in_bounds { j.setup.n * (j.setup.p + 4) ≤ length out.old }
+    requires room { j.setup.n * (j.setup.p + 4) ≤ length out.old }
     ensures { (result, out.new) ≡ run_of j (trusted_data coords.now x.now y.now trust.now) out.old allowance }
 {
     let mut k = j;

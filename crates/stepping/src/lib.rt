@@ -1,4 +1,6 @@
 // The job record, and its step: a fit that is made a local solve at a time.
+#![tactic(auto)]
+
 ghost use Rattle.std.specs.Prelude.{◌≡◌, ◌+◌, ◌*◌, ◌≤◌, length};
 ghost use Rattle.setup.specs.Data.{trusted_data};
 ghost use Rattle.setup.specs.Shape.{Shaped};
@@ -196,7 +198,7 @@ impl Job {
     // The location solved: on to the next one, or the sweep is over.
     fn pass(self, sweep: Sweep) -> Self
         requires sound { Sound 0 self }
-        requires location_value { sweep.location ≡ self.sweep.location }
+        requires same_location { sweep.location ≡ self.sweep.location }
         ensures { result ≡ pass_job self sweep }
     {
         let setup = self.setup;
@@ -226,7 +228,7 @@ impl Job {
     pub fn step(self, coords: &[f64], x: &[f64], y: &[f64], trust: &[f64], out: &mut [f64]) -> Self
         requires sound { Sound 0 self }
         requires shaped { Shaped self.setup (trusted_data coords.now x.now y.now trust.now) }
-        requires p_in_bounds { self.setup.n * (self.setup.p + 4) ≤ length out.old }
+        requires room { self.setup.n * (self.setup.p + 4) ≤ length out.old }
         ensures { (result, out.new) ≡ step_of (trusted_data coords.now x.now y.now trust.now) (self, out.old) }
     {
         let u = self.setup;
