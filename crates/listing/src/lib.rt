@@ -1,4 +1,6 @@
 // What `gwrprint` prints.
+#![tactic(auto)]
+
 ghost use Rattle.std.specs.Prelude.{◌≡◌, ◌+◌, ◌*◌, ◌≤◌, ◌<◌, length};
 ghost use Rattle.wire.specs.Wire.{load_of};
 ghost use Rattle.text.specs.Listing.{WrittenText};
@@ -18,8 +20,8 @@ fn print_answer(
     width: usize,
     text: &mut [u8],
 ) -> usize
-    requires number_bound { (number < 1000000) × (n ≤ 512) × (width ≤ 11) × (8 * (n * width) ≤ length out.now) × (24 ≤ length summary.now) × (102400 ≤ length text.old) }
-    requires summary_bound { number ≡ 0 → load_of summary.now 16 ≤ 52736 }
+    requires sizes { (number < 1000000) × (n ≤ 512) × (width ≤ 11) × (8 * (n * width) ≤ length out.now) × (24 ≤ length summary.now) × (102400 ≤ length text.old) }
+    requires few_solves { number ≡ 0 → load_of summary.now 16 ≤ 52736 }
     ensures { WrittenText text.old 0 (answer_text (number, (out.now, summary.now)) n width) text.new result }
 {
     if 0 < number {
@@ -30,8 +32,8 @@ fn print_answer(
 
 // The text of a job whose parts are whole, with `out` and `summary` lent to the fit.
 fn print_whole(h: Head, parts: &[u8], out: &mut [u8], summary: &mut [u8], text: &mut [u8]) -> usize
-    requires n_bound { (h.n ≤ 512) × (h.p ≤ 7) × (responses_end h.n h.p ≤ length parts.now) }
-    requires in_bounds { (45056 ≤ length out.old) × (24 ≤ length summary.old) × (102400 ≤ length text.old) }
+    requires whole { (h.n ≤ 512) × (h.p ≤ 7) × (responses_end h.n h.p ≤ length parts.now) }
+    requires room { (45056 ≤ length out.old) × (24 ≤ length summary.old) × (102400 ≤ length text.old) }
     ensures { WrittenText text.old 0 (whole_text h parts.now out.old summary.old) text.new result }
 {
     let n = h.n;

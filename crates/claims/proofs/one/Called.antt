@@ -8,7 +8,6 @@ use lib.ListN.{length, take, replicate}
 use lib.Ieee.{Float}
 use Rattle.claims.specs.Words.{zero64, Refusal, refusal_number, NoneOf, Decides, GwrKernel, weight_of, GwrBandwidth, GwrOptions, Setup, setup_of, Data, solve_location, Criterion, deviation, corrected_aic, rounded, from_count, root, finish_of, FitAnswer, real_of, kernel_of, named_kernel, options_of, named, AfterCall, numbers_of, call_tests, placed_rows, answer_bytes, numbers_fit, fit_bytes, weight_tests, refused_weight, given_weight, weight_bytes}
 use Rattle.claims.proofs.Laws.{either, AtFit, OutcomeBy, call_decides, weight_decides, call_passed, call_untouched, weight_known}
-use Rattle.criterion.specs.declared.Criterion.TheVariants as criterion
 use lib.Ieee.Scale.{finite}
 use Rattle.sweep.specs.declared.Finish.TheVariants as finish
 use Rattle.gwr.specs.declared.FitAnswer.TheVariants as fit
