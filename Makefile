@@ -1,7 +1,7 @@
 # make test: every proof, must-fail edit, program, stored run, Rust test and the comparison with 000.
 # make fit: the example table fitted by the Rust command. make listing: the printing program on a small job.
 # Before the first of them the crates are proved, in some minutes; what is said of that goes to standard error.
-# make instructions: instructions of fits, counted. make times: seconds of every proof and must-fail edit, from one run of all of them.
+# make instructions: instructions of fits, counted. make times: seconds of every proof and must-fail edit, one after the other.
 # make against REVISION=HEAD~1: every line of the bench by the code as it was there and as it is here, in one run; leave the machine quiet.
 # make compare N=100000: the comparison with that many random jobs. make store: stored answers of 000 anew, for crates/replay.
 # make listings: the jobs of tests/listings/jobs.txt as files anew, with what 000 has gwrprint print of them.
@@ -23,7 +23,7 @@ fit:
 
 listing:
 	@bash scripts/prove.sh gwrprint
-	@target/bin/gwrprint <crates/gwrprint/stdin
+	@crates/gwrprint/out/gwrprint <crates/gwrprint/stdin
 
 compare:
 	@$(CARGO) compare -- $(N)
@@ -53,5 +53,5 @@ planted:
 	@bash scripts/fuzz.sh planted
 
 fmt:
-	@rt fmt
+	@for crate in crates/*/; do (cd "$$crate" && rt fmt) || exit; done
 	@cd rust && cargo fmt

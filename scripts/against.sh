@@ -1,11 +1,12 @@
 #!/usr/bin/env bash
 # against.sh REVISION [SECONDS]: times every line of the bench by the proved code as it is here and as it was at that revision, in one
-# run, by turns, and says their ratios; some SECONDS (2) for each line. The revision is cloned to target/before and proved there, which
-# takes minutes the first time. Leave the machine quiet meanwhile.
+# run, by turns, and says their ratios; some SECONDS (2) for each line. The revision is cloned into the folder that git keeps, where rt
+# reads no crate, and proved there, which takes minutes the first time. It must be one that this toolchain proves. Leave the machine
+# quiet meanwhile.
 set -eu
 cd "$(dirname "$0")/.."
 revision=$(git rev-parse --verify "${1:?a revision}^{commit}")
-before=target/before
+before=$(git rev-parse --absolute-git-dir)/before
 [ -d "$before" ] || git clone --quiet . "$before"
 git -C "$before" fetch --quiet origin
 git -C "$before" checkout --quiet --detach "$revision"

@@ -1,41 +1,37 @@
 #!/usr/bin/env bash
-# What the proofs assume, by the reports that `rt ci` and `rt staticlib` leave in target/log: nothing, but that the four programs that
-# do I/O assume the contracts of libc's read and write. A crate without a report, or with no verdict in it, is wrong too.
-# Only the report of a program or a static library speaks of every crate below it, so gateway and measured must be reported as such.
+# What the proofs assume, by the reports of `rt check` on each program and static library, which speak of every crate below: nothing,
+# but that the four programs, which do I/O, assume the contracts of the C functions that the standard library calls for it: write, in
+# two of them read, and for the text of an error errno and strerror_r. And no crate uses a library that is not this repository's, the
+# standard library apart. That no crate declares a C function of its own is asked by `rt ci`.
 set -u
 cd "$(dirname "$0")/.." || exit 2
 
-# What a crate's report may assume.
+# What a report may assume.
 assumed() {
     case $1 in
-    gwrprint | replay) echo 'axioms libc: libc::read, libc::write' ;;
-    turning | trusted) echo 'axioms libc: libc::write' ;;
+    gwrprint | replay) echo 'libc::read libc::write os::c::__xpg_strerror_r os::c::rattle_errno' ;;
+    turning | trusted) echo 'libc::write os::c::__xpg_strerror_r os::c::rattle_errno' ;;
     esac
 }
 
-# The words of a crate's verdict that count what is assumed, or say that it is of the whole.
-counted() {
-    case $1 in
-    gwrprint | replay) echo 'axioms=2 target=x86_64-unknown-linux-gnu' ;;
-    turning | trusted) echo 'axioms=1 target=x86_64-unknown-linux-gnu' ;;
-    gateway | measured) echo 'target=x86_64-unknown-linux-gnu' ;;
-    esac
-}
-
-crates=$(sed -n 's/^\([a-z_]*\):.*/\1/p' crates.txt)
+crates=$(sed -n 's/^\([a-z_]*\)\( staticlib\)\?:.*/\1/p' crates.txt)
 [ -n "$crates" ] || { echo "crates.txt lists no crate"; exit 1; }
 wrong=0
+for name in $(sed -n 's/^[a-z_ ]*: *//p' crates.txt); do
+    grep -qx "$name" <<<"$crates" || { echo "crates.txt names $name, which is no crate of this repository"; wrong=1; }
+done
 for crate in $crates; do
-    log=target/log/$crate.say
-    if [ "$(grep -c '^logic=proved ' "$log" 2>/dev/null)" != 1 ]; then
-        echo "$crate: no verdict in $log"
+    [ -f "crates/$crate/src/main.rt" ] || grep -q "^$crate staticlib:" crates.txt || continue
+    said=$(cd "crates/$crate" && rt check --list-axioms 2>&1)
+    verdict=$(grep '^logic=proved ' <<<"$said")
+    names=$(sed -n 's/^  \([^ ]*\) *reached$/\1/p' <<<"$said" | paste -sd ' ')
+    wanted=$(assumed "$crate")
+    count=$(wc -w <<<"$wanted")
+    if [[ $verdict != *' target=x86_64-unknown-linux-gnu '* ]]; then
+        echo "$crate: rt check gives no verdict on it"
         wrong=1
-        continue
-    fi
-    names=$(sed -n 's/^\(axioms .*\) (.*/\1/p' "$log")
-    words=$(grep '^logic=proved ' "$log" | grep -oE '(foreign|axioms|target)=[^ ]*' | paste -sd ' ')
-    if [ "$names" != "$(assumed "$crate")" ] || [ "$words" != "$(counted "$crate")" ]; then
-        echo "$crate assumes '$names' ($words), where '$(assumed "$crate")' ($(counted "$crate")) was expected"
+    elif [ "$names" != "$wanted" ] || [ "$(grep -oE ' axioms=[0-9]+' <<<"$verdict")" != "${wanted:+ axioms=$count}" ] || [[ $verdict = *' foreign='* ]]; then
+        echo "$crate assumes '$names', where '$wanted' was expected ($verdict)"
         wrong=1
     fi
 done

@@ -1,5 +1,5 @@
 #!/usr/bin/env bash
-# What a reader must believe: the lines of specs/ that the statements of the three demands (`demand-one`, `demand-two`, `demand-three` in
+# What a reader must believe: the lines of specs/ that the statements of the three demands (`demand_one`, `demand_two`, `demand_three` in
 # proofs/) cite, without imports, `unfolding` lines (which say nothing of what a definition is), comments and blank lines. Counted
 # definition by definition, those of the demands' own files specs/Demand*.antt apart, and by whole files that `use` reaches; of all three
 # demands, and of some alone. `believed.sh list` has a line for each file as well: its cited lines, all of its lines, its name.
@@ -14,7 +14,7 @@ cd "$(dirname "$0")/.."
 roots() {
     local demand
     for demand in "$@"; do
-        grep -lE "^ *pub demand-$demand :" crates/*/proofs/*.antt || { echo "believed.sh: nothing in proofs/ states demand-$demand" >&2; return 2; }
+        grep -lE "^ *pub demand_$demand :" crates/*/proofs/*.antt || { echo "believed.sh: nothing in proofs/ states demand_$demand" >&2; return 2; }
     done
 }
 
@@ -26,11 +26,9 @@ count() {
     awk -v list="${list:-}" -v demands="$*" '
         # the file of specs/ that a path of `use` leads to, or nothing
         function file_of(path,   part, n) {
-            if (path !~ /^Rattle·/ || path ~ /\.declared\./) return ""
-            sub(/^Rattle·/, "", path)
             n = split(path, part, ".")
-            sub(/·(specs|proofs)$/, "", part[1])
-            return (n < 3 || part[2] != "specs") ? "" : "crates/" part[1] "/specs/" part[3] ".antt"
+            if (n < 4 || part[1] != "Rattle" || part[3] != "specs" || part[4] == "declared") return ""
+            return "crates/" part[2] "/specs/" part[4] ".antt"
         }
         function import(line,   path, names, n, name, i) {
             sub(/^ *(unfoldable )?(pub )?use /, "", line)
@@ -69,7 +67,7 @@ count() {
             sub(/ -- .*/, "")
             text[now] = text[now] " " $0
             # the statement of a theorem ends where its proof begins
-            if (signed($0) ~ /^demand-/) { stated = now; wanted = signed($0) }
+            if (signed($0) ~ /^demand_/) { stated = now; wanted = signed($0) }
             else if (stated == now && indent == base) { text[now] = kept }
             kept = text[now]
         }
@@ -97,7 +95,7 @@ count() {
         END {
             for (pair in from) { split(pair, part, SUBSEP); uses[part[1]] = uses[part[1]] " " origin(part[1], part[2]) }
             n = split(demands, demand, " ")
-            for (f in uses) for (i = 1; i <= n; i++) if ((f, "demand-" demand[i]) in at) { root[at[f, "demand-" demand[i]]]; cite(at[f, "demand-" demand[i]]) }
+            for (f in uses) for (i = 1; i <= n; i++) if ((f, "demand_" demand[i]) in at) { root[at[f, "demand_" demand[i]]]; cite(at[f, "demand_" demand[i]]) }
             for (k = 1; k <= last; k++) {
                 i = queue[k]; s = text[i]
                 if (match(s, /<[0-9]+>/)) cite(substr(s, RSTART + 1, RLENGTH - 2) + 0)

@@ -1,7 +1,7 @@
 #!/usr/bin/env bash
-# The stored runs of gwrprint: each job of tests/listings/jobs.txt has a NAME.job, on which target/bin/gwrprint must print NAME.out.
+# The stored runs of gwrprint: each job of tests/listings/jobs.txt has a NAME.job, on which gwrprint must print NAME.out.
 # None may be missing, and every ending that gwrprint can have must be among them (13 cannot come: it lends enough room).
-# `make listings` writes the files anew from 000. The last line is 'N passed, M failed'.
+# It is run as rt leaves it, crates/gwrprint/out/gwrprint. `make listings` writes the files anew from 000. The last line is 'N passed, M failed'.
 set -u
 cd "$(dirname "$0")/../tests/listings" || exit 2
 . ../../scripts/count.sh
@@ -9,7 +9,7 @@ least=47
 
 names=$(sed -n 's/^\([a-z0-9-]*\): .*/\1/p' jobs.txt)
 for name in $names; do
-    [ -f "$name.job" ] && ../../target/bin/gwrprint <"$name.job" 2>/dev/null | cmp -s - "$name.out"
+    [ -f "$name.job" ] && ../../crates/gwrprint/out/gwrprint <"$name.job" 2>/dev/null | cmp -s - "$name.out"
     note $? "tests/listings/$name"
 done
 [ "$(wc -w <<<"$names")" -ge "$least" ]

@@ -1,7 +1,7 @@
 #!/usr/bin/env bash
 # The Rust side: layout, lints, tests, and the comparison with 000. Its last line is 'N passed, M failed'; the comparison counts
 # as one, and not at all where the source of 000 is not at hand. The line before the last says how it went, or that it was left out.
-# What the checks need must be there: without cargo, rustfmt or clippy they fail. Run it after the proofs: it links what they wrote.
+# What the checks need must be there: without cargo, rustfmt or clippy they fail. It links the static libraries that scripts/prove.sh makes.
 set -u
 cd "$(dirname "$0")/../rust" || exit 2
 . ../scripts/count.sh

@@ -5,7 +5,7 @@ set -u
 cd "$(dirname "$0")/.." || exit 2
 
 # What every reader is promised: these names must stand in the tables.
-promised='demand-one demand-two demand-three eleven four-played near-played'
+promised='demand_one demand_two demand_three eleven four_played near_played'
 
 # The last cells of the tables' rows, one to a line.
 cells() {
@@ -25,7 +25,7 @@ named() {
                 file=$word bare=1
                 ;;
             esac
-        done < <(grep -oE '[A-Za-z_/]+\.antt|`[A-Za-z0-9-]+`' <<<"$cell")
+        done < <(grep -oE '[A-Za-z_/]+\.antt|`[A-Za-z0-9_-]+`' <<<"$cell")
         [ "$bare" -eq 0 ] || echo "$file"
     done
 }

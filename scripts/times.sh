@@ -1,30 +1,57 @@
 #!/usr/bin/env bash
-# Seconds of proving, by crate: of its check, of its must-fail edits with how many they are, and of its run if it is a program.
-# times.sh: of one run of `rt ci`, which takes as long as that does; make times is this.
-# times.sh LOG: of what such a run said before, as in a log of make test.
-# times.sh A B: of two runs side by side, before and after; each is a log or a table that this wrote.
-# Each second is rt's own, whole and of the clock, while RT_JOBS others ran beside: compare runs of the same RT_JOBS on the same machine.
+# Seconds of proving, by crate: of its check from nothing, of its must-fail edits with how many they are, and of its run if it is a
+# program.
+# times.sh: measures them one after the other, which takes an hour or more; make times is this. A crate's check is timed by
+# `rt all verdict`, its edits by `rt must-fail --anew`, which begins with what `rt check` kept, and its program as rt last left it.
+# times.sh A B: two tables that this wrote side by side, before and after.
+# Each second is whole and of the clock: compare runs on the same machine, with nothing else running.
 set -u
 here=$(pwd)
 cd "$(dirname "$0")/.." || exit 2
 
-# figures FILE: lines 'CRATE CHECK EDITS SECONDS RUN' of a log or a table, in its order; '-' for what there is none of.
+# figures FILE: lines 'CRATE CHECK EDITS SECONDS RUN' of a table, in its order; '-' for what there is none of.
 figures() {
-    awk '
-        function of(name) { if (!(name in seen)) { seen[name]; order[++n] = name } return name }
-        function seconds() { return match($0, /[0-9]+ s\)$/) ? substr($0, RSTART, RLENGTH - 3) + 0 : 0 }
-        function shown(name, list) { return (name in list) ? list[name] + 0 : "-" }
-        { sub(/\r$/, "") }
-        /^\| [a-z_]+ \|/ && $2 != "crate" && $2 != "all" {
-            name = of($2)
-            if ($4 != "-") check[name] = $4
-            if ($6 != "-") { edits[name] = $6; tried[name] = $8 }
-            if ($10 != "-") ran[name] = $10
-        }
-        /^rt: must-fail [a-z_]+\/[^ ]*: / { split($3, part, "/"); name = of(part[1]); edits[name]++; tried[name] += seconds(); next }
-        /^rt: [a-z_]+ (proved \(|NOT PROVED \(exit)/ && / s\)$/ { check[of($2)] = seconds() }
-        /^rt: [a-z_]+ (ran|proved, and its run FAILED)/ && / s\)$/ { ran[of($2)] = seconds() }
-        END { for (i = 1; i <= n; i++) { c = order[i]; print c, shown(c, check), shown(c, edits), shown(c, tried), shown(c, ran) } }' "$1"
+    awk '/^\| [a-z_]+ \|/ && $2 != "crate" && $2 != "all" { print $2, $4, $6, $8, $10 }' "$1"
+}
+
+# checked: measures the checks, as lines 'CRATE SECONDS'. rt says a line '== CRATE' as it ends one.
+checked() {
+    local line last=$SECONDS
+    rt all verdict --jobs 1 2>&1 | tee "$room/said" | while IFS= read -r line; do
+        [[ $line =~ ^==\ ([a-z_]+)$ ]] && [ "${BASH_REMATCH[1]}" != summary ] || continue
+        echo "${BASH_REMATCH[1]} $((SECONDS - last))"
+        last=$SECONDS
+    done
+    [ "${PIPESTATUS[0]}" -eq 0 ] || { cat "$room/said" >&2; exit 1; }
+}
+
+# edits CRATE: how many must-fail edits it has, and the seconds of trying them; '- -' for none.
+edits() {
+    local many began=$SECONDS
+    many=$(find "crates/$1" -path '*/must-fail/*.edit' | wc -l)
+    [ "$many" -gt 0 ] || { echo - -; return; }
+    rt must-fail --anew "$1" >"$room/said" 2>&1 || { cat "$room/said" >&2; exit 1; }
+    echo "$many $((SECONDS - began))"
+}
+
+# ran CRATE: the seconds of its program; '-' for a library.
+ran() {
+    local program=$PWD/crates/$1/out/$1 given=crates/$1/stdin began
+    [ -f "crates/$1/src/main.rt" ] || { echo -; return; }
+    [ -f "$given" ] || given=/dev/null
+    bash scripts/prove.sh "$1" || exit 1
+    began=$SECONDS
+    "$program" <"$given" >/dev/null || exit 1
+    echo $((SECONDS - began))
+}
+
+measured() {
+    local crate seconds tried
+    checked >"$room/checks" || exit 1
+    while read -r crate seconds; do
+        tried=$(edits "$crate") || exit 1
+        echo "$crate $seconds $tried $(ran "$crate")" || exit 1
+    done <"$room/checks"
 }
 
 # table: those lines as a table, with their sums.
@@ -70,16 +97,9 @@ room=$(mktemp -d) || exit 2
 trap 'rm -rf "$room"' EXIT
 case $# in
 0)
-    began=$(date +%s)
-    bash scripts/turn.sh rt ci >"$room/log" 2>&1
-    status=$?
-    took=$(($(date +%s) - began))
-    read_as one "$room/log"
+    measured >"$room/one" || exit 1
     table <"$room/one"
-    echo "rt ci took $took s, ${RT_JOBS:-$(nproc)} at a time"
-    [ "$status" -eq 0 ] || { grep -E '^rt: (FAILED|.*(NOT PROVED|NOT REFUSED|BAD EDIT|FAILED))' "$room/log" >&2; exit "$status"; }
     ;;
-1) read_as one "$1" && table <"$room/one" ;;
 2) read_as one "$1" && read_as two "$2" && beside "$room/one" "$room/two" ;;
-*) echo "times.sh [LOG | A B]" >&2; exit 2 ;;
+*) echo "times.sh [A B]" >&2; exit 2 ;;
 esac

@@ -1,4 +1,6 @@
 // The byte calls with C linkage, for a program in another language.
+#![tactic(auto)]
+
 ghost use Rattle.std.specs.Prelude.{◌≡◌};
 ghost use Rattle.calls.specs.Calls.{fit_bytes};
 ghost use Rattle.weighing.specs.Weighing.{weight_bytes};

@@ -1,34 +1,44 @@
 // Reads a job from standard input and prints its fit.
 // Proved: the first `len` bytes of `text` are `printed` of the first `got` of `input`, whichever these are (`listing::print_input`), and these are no more than are asked for (`read_input`).
 // Of the bytes that are asked for of a standard input that is what is printed of all of it (crates/listing/proofs/Reading.antt `handed_on`).
-// Not proved, since no contract of the kit says which bytes are read or written: that `io::read_full` gives those of standard input in order, and that `io::write_all` writes those lent to it.
+// Not proved, since no contract of the kit says which bytes are read or written: that `read` gives those of standard input in order, and that `write_all` writes those lent to it.
 // That is the kit's and the C library's, and is executed, on the stored jobs and on every prefix of one (scripts/prefixes.sh).
+#![tactic(auto)]
+
 ghost use Rattle.std.specs.Prelude.{◌≤◌, ◌≡◌, length, take};
 ghost use Rattle.listing.specs.Printed.{read_of};
 
-use libc::{STDIN_FILENO, STDOUT_FILENO};
+use std::io;
+use std::io::{Read, Stdin};
 
-fn main() {
+fn main(rt: HostRuntime) -> io::Result<()> {
     let mut input = [0u8; 41000];
     let mut text = [0u8; 102400];
-    let got = read_input(&mut input);
+    let got = read_input(rt.stdin(), &mut input);
     let len = listing::print_input(&input[..got], &mut text);
-    io::write_all(STDOUT_FILENO, &text[..len]);
+    rt.write_all(&text[..len])
 }
 
 // Reads the header's 40 bytes, and then only as many as these ask for; none behind a header that is short or refused.
-fn read_input(input: &mut [u8]) -> usize
+fn read_input(stdin: Stdin, input: &mut [u8]) -> usize
     requires { 41000 ≤ length input.old }
     ensures { (result ≤ 41000) × (read_of (take result input.new) ≡ take result input.new) }
 {
-    let head = read_part(&mut input[..40]);
+    let head = read_part(stdin, &mut input[..40]);
     let end = 40 + header::asked_behind(&input[..head]);
-    head + read_part(&mut input[40..end])
+    head + read_part(stdin, &mut input[40..end])
 }
 
-// Reads standard input until the part is full or the input ends.
-fn read_part(part: &mut [u8]) -> usize
+// Reads standard input until the part is full or the input ends; a read that fails ends it too.
+fn read_part(mut stdin: Stdin, part: &mut [u8]) -> usize
     ensures { (result ≤ length part.new) × (length part.new ≡ length part.old) }
 {
-    io::read_full(STDIN_FILENO, part)
+    let mut done = 0;
+    while done < part.len() {
+        match stdin.read(&mut part[done..]) {
+            Ok(0) | Err(_) => break,
+            Ok(n) => done += n,
+        }
+    }
+    done
 }

@@ -1,6 +1,8 @@
 // What rust/bench times or compares and no other call shows, with C linkage: square roots and exponentials of many numbers in place,
 // so that a timing of one has no call's cost in it, the turns of a job, a walk that is stopped, and a fit by either criterion. Only
 // rust/bench links it.
+#![tactic(auto)]
+
 ghost use Rattle.std.specs.Prelude.{◌≡◌, map, ◌*◌, ◌≤◌, length, get_or, take};
 ghost use Rattle.real.specs.Reals.{zero64};
 ghost use Rattle.root.specs.Root.{root};

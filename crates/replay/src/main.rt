@@ -5,9 +5,12 @@
 // predictors and responses, and output and summary as they are after the call; before it every byte of them is A5. Each part has a
 // length that its buffer below has room for: 513 places, what 512 pantries with 7 predictors need, and some bytes more.
 // Group 0 is of the weight call, with its distance in the place of the number of predictors.
+#![tactic(auto)]
+
 ghost use Rattle.std.specs.Prelude.{◌≤◌, length};
 
-use libc::{STDIN_FILENO, STDOUT_FILENO};
+use std::io;
+use std::io::{Read, Stdin};
 
 // What became of a record.
 const END: u64 = 0;
@@ -71,10 +74,10 @@ fn agrees(
     if number as u64 != wire::load(head, 72) {
         return DIFFERS;
     }
-    if !check::same(&*out, out_after) {
+    if &*out != out_after {
         return DIFFERS;
     }
-    if !check::same(&*summary, summary_after) {
+    if &*summary != summary_after {
         return DIFFERS;
     }
     AGREES
@@ -118,45 +121,56 @@ fn parts_len(head: &[u8]) -> usize
     d + at_most(wire::load(head, 32), 64)
 }
 
-fn replay_parts(head: &[u8]) -> u64
+// Reads standard input until the part is full or the input ends; a read that fails ends it too.
+fn read_part(mut stdin: Stdin, part: &mut [u8]) -> usize
+    ensures { result ≤ length part.new }
+{
+    let mut done = 0;
+    while done < part.len() {
+        match stdin.read(&mut part[done..]) {
+            Ok(0) | Err(_) => break,
+            Ok(n) => done += n,
+        }
+    }
+    done
+}
+
+fn replay_parts(stdin: Stdin, head: &[u8]) -> u64
     requires { 88 ≤ length head.now }
 {
     let mut parts = [0u8; 86112];
     let mut out = [165u8; 45056];
     let mut summary = [165u8; 64];
     let all = parts_len(head);
-    let got = io::read_full(STDIN_FILENO, &mut parts[..all]);
+    let got = read_part(stdin, &mut parts[..all]);
     replay_read(head, &parts[..got], &mut out, &mut summary)
 }
 
-fn replay_record() -> u64 {
+fn replay_record(stdin: Stdin) -> u64 {
     let mut head = [0u8; 88];
-    let got = io::read_full(STDIN_FILENO, &mut head);
+    let got = read_part(stdin, &mut head);
     if got < 88 {
         return END;
     }
-    replay_parts(&head)
+    replay_parts(stdin, &head)
 }
 
 // A proved loop has to end, and nothing says that the input does, so the loop counts its turns down.
-fn replay_all() -> Tally {
+fn replay_all(stdin: Stdin) -> Tally {
     let mut turns = 1000000u64;
     let mut records = 0u64;
     let mut agreed = 0u64;
-    let mut last = replay_record();
+    let mut last = replay_record(stdin);
     while turns > 0 && last != END {
         turns = turns - 1;
         records = std::num::wrapping_add_u64(records, 1);
         agreed = std::num::wrapping_add_u64(agreed, last / AGREES);
-        last = replay_record();
+        last = replay_record(stdin);
     }
     Tally { records, agreed }
 }
 
-fn main() {
-    let tally = replay_all();
-    io::print_decimal(STDOUT_FILENO, tally.agreed);
-    io::write_all(STDOUT_FILENO, b" of ");
-    io::print_decimal(STDOUT_FILENO, tally.records);
-    io::write_all(STDOUT_FILENO, b" stored answers agree\n");
+fn main(rt: HostRuntime) -> io::Result<()> {
+    let Tally { records, agreed } = replay_all(rt.stdin());
+    println!(rt; "{agreed} of {records} stored answers agree")
 }

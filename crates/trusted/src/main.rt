@@ -1,82 +1,78 @@
 // Fits fixed jobs whose trusts may surprise, and their plain neighbours, and prints each as `gwrprint` prints a job: the line of the
 // fit, and a line for each row. rust/oracle/src/trusts.rs holds what is stored of it against 000.
+#![tactic(auto)]
+
 ghost use Rattle.std.specs.Prelude.{◌≤◌, ◌<◌};
 
 use criterion::Summary;
 use gwr::FitAnswer;
 use kernel::GwrKernel;
-use libc::STDOUT_FILENO;
 use setup::{GwrBandwidth, GwrOptions};
+use std::io;
 use sweep::Finish;
 
-fn print(word: &[u8]) {
-    io::write_all(STDOUT_FILENO, word);
-}
-
 // A space and the bits of a real.
-fn print_real(v: f64) {
+fn print_real(rt: &impl Print, v: f64) -> io::Result<()> {
     let mut text = [0u8; 17];
     text::put_bits(&mut text, 0, wire::bits_of(v));
-    print(&text);
+    rt.write_all(&text)
 }
 
 // The line of a fit: no refusal, bandwidth, AICc, solves.
-fn print_summary(s: Summary) {
-    print(b"fit 0");
-    print_real(s.bandwidth);
-    print_real(s.aicc);
-    print(b" ");
-    io::print_decimal(STDOUT_FILENO, s.solves);
-    print(b"\n");
+fn print_summary(rt: &impl Print, s: Summary) -> io::Result<()> {
+    print!(rt; "fit 0")?;
+    print_real(rt, s.bandwidth)?;
+    print_real(rt, s.aicc)?;
+    println!(rt; " {}", s.solves)
 }
 
 // What stands before number k of rows of this width: the row's own number where it begins one.
-fn print_start(k: usize, width: usize)
+fn print_start(rt: &impl Print, k: usize, width: usize) -> io::Result<()>
     requires { 0 < width }
 {
     if k % width == 0 {
-        print(b"row ");
-        io::print_decimal(STDOUT_FILENO, (k / width) as u64);
+        print!(rt; "row {}", k / width)?;
     }
+    Ok(())
 }
 
 // What stands behind the first k numbers: the end of a line where they fill their rows.
-fn print_end(k: usize, width: usize)
+fn print_end(rt: &impl Print, k: usize, width: usize) -> io::Result<()>
     requires { 0 < width }
 {
     if k % width == 0 {
-        print(b"\n");
+        println!(rt)?;
     }
+    Ok(())
 }
 
 // The lines of whole rows.
-fn print_rows(rows: &[f64], width: usize)
+fn print_rows(rt: &impl Print, rows: &[f64], width: usize) -> io::Result<()>
     requires { 0 < width }
 {
     for k in 0..rows.len() {
-        print_start(k, width);
-        print_real(rows[k]);
-        print_end(k + 1, width);
+        print_start(rt, k, width)?;
+        print_real(rt, rows[k])?;
+        print_end(rt, k + 1, width)?;
     }
+    Ok(())
 }
 
-fn print_refused(number: u32) {
-    print(b"fit ");
-    io::print_decimal(STDOUT_FILENO, number as u64);
-    print(b"\n");
+fn print_refused(rt: &impl Print, number: u32) -> io::Result<()> {
+    println!(rt; "fit {number}")
 }
 
 // What a fit answered, with `rows` as its output.
-fn print_answer(answer: FitAnswer, rows: &[f64], width: usize)
+fn print_answer(rt: &impl Print, answer: FitAnswer, rows: &[f64], width: usize) -> io::Result<()>
     requires { 0 < width }
 {
     match answer {
-        FitAnswer::Rejected(r) => print_refused(r.number()),
+        FitAnswer::Rejected(r) => print_refused(rt, r.number()),
         FitAnswer::Done(finish) => match finish {
-            Finish::Failed(r, _) => print_refused(r.number()),
+            Finish::Failed(r, _) => print_refused(rt, r.number()),
             Finish::Fitted(s) => {
-                print_summary(s);
-                print_rows(rows, width);
+                print_summary(rt, s)?;
+                print_rows(rt, rows, width)
             }
         },
     }
@@ -84,7 +80,8 @@ fn print_answer(answer: FitAnswer, rows: &[f64], width: usize)
 
 // A job's name and its fit; `out` has just the room that the rows need, or less.
 fn show(
-    name: &[u8],
+    rt: &impl Print,
+    name: &str,
     coords: &[f64],
     x: &[f64],
     y: &[f64],
@@ -92,14 +89,13 @@ fn show(
     p: usize,
     options: GwrOptions,
     out: &mut [f64],
-)
+) -> io::Result<()>
     requires { p ≤ 7 }
 {
-    print(name);
-    print(b":\n");
+    println!(rt; "{name}:")?;
     let fit = gwr::gwr_fit(coords, x, y, trust, p, options, &mut *out);
     let answer = fit.answer;
-    print_answer(answer, &*out, p + 4);
+    print_answer(rt, answer, &*out, p + 4)
 }
 
 fn by_distance(kernel: GwrKernel, d: f64) -> GwrOptions {
@@ -111,107 +107,108 @@ fn by_count(kernel: GwrKernel, k: usize, searched: bool) -> GwrOptions {
 }
 
 // Three at one place. The leverage of the first is infinite before its own weight is multiplied in.
-fn three(name: &[u8], first: f64) {
+fn three(rt: &impl Print, name: &str, first: f64) -> io::Result<()> {
     let coords = [0.0; 6];
     let x = [1e200, 0.0, 1.0];
     let y = [0.0; 3];
     let trust = [first, 1.0, 1.0];
     let options = by_distance(GwrKernel::Gaussian, 1.0);
     let mut out = [0.0; 15];
-    show(name, &coords, &x, &y, &trust, 1, options, &mut out);
+    show(rt, name, &coords, &x, &y, &trust, 1, options, &mut out)
 }
 
 // Two at one place, the fewest of which that is so. Only the second weighs; that the square of its predictor is rounded makes a
 // second pivot.
-fn two(name: &[u8], first: f64) {
+fn two(rt: &impl Print, name: &str, first: f64) -> io::Result<()> {
     let coords = [0.0; 4];
     let x = [1e200, 94906267.0];
     let y = [0.0; 2];
     let trust = [first, 1.0];
     let options = by_distance(GwrKernel::Gaussian, 1.0);
     let mut out = [0.0; 10];
-    show(name, &coords, &x, &y, &trust, 1, options, &mut out);
+    show(rt, name, &coords, &x, &y, &trust, 1, options, &mut out)
 }
 
 // Two by Bisquare with one neighbour, which is as far away as the bandwidth and so weighs nothing.
-fn neighbours(name: &[u8], first: f64, second: f64) {
+fn neighbours(rt: &impl Print, name: &str, first: f64, second: f64) -> io::Result<()> {
     let coords = [0.0, 0.0, 1.0, 0.0];
     let x = [0.0; 0];
     let y = [3.0, 4.0];
     let trust = [first, second];
     let options = by_count(GwrKernel::Bisquare, 1, false);
     let mut out = [0.0; 8];
-    show(name, &coords, &x, &y, &trust, 0, options, &mut out);
+    show(rt, name, &coords, &x, &y, &trust, 0, options, &mut out)
 }
 
 // One alone, whose trust is its system's only pivot.
-fn alone(name: &[u8], trust: f64, out: &mut [f64]) {
+fn alone(rt: &impl Print, name: &str, trust: f64, out: &mut [f64]) -> io::Result<()> {
     let coords = [0.0, 0.0];
     let x = [0.0; 0];
     let y = [5.0];
     let trusts = [trust];
     let options = by_distance(GwrKernel::Gaussian, 1.0);
-    show(name, &coords, &x, &y, &trusts, 0, options, out);
+    show(rt, name, &coords, &x, &y, &trusts, 0, options, out)
 }
 
 // Four with one predictor.
-fn four(name: &[u8], trust: &[f64], options: GwrOptions) {
+fn four(rt: &impl Print, name: &str, trust: &[f64], options: GwrOptions) -> io::Result<()> {
     let coords = [0.0, 0.0, 1.0, 0.0, 0.0, 2.0, 3.0, 3.0];
     let x = [1.0, 2.0, 4.0, 7.0];
     let y = [2.0, 3.0, 5.0, 9.0];
     let mut out = [0.0; 20];
-    show(name, &coords, &x, &y, trust, 1, options, &mut out);
+    show(rt, name, &coords, &x, &y, trust, 1, options, &mut out)
 }
 
 // One alone, with room for its row.
-fn one(name: &[u8], trust: f64) {
+fn one(rt: &impl Print, name: &str, trust: f64) -> io::Result<()> {
     let mut out = [0.0; 4];
-    alone(name, trust, &mut out);
+    alone(rt, name, trust, &mut out)
 }
 
 // The same with room for less.
-fn one_short(name: &[u8], trust: f64) {
+fn one_short(rt: &impl Print, name: &str, trust: f64) -> io::Result<()> {
     let mut out = [0.0; 3];
-    alone(name, trust, &mut out);
+    alone(rt, name, trust, &mut out)
 }
 
-fn surprises() {
-    three(b"zero times infinity", 0.0);
-    three(b"the same, fully trusted", 1.0);
-    two(b"zero times infinity, the fewest", 0.0);
-    two(b"the fewest, fully trusted", 1.0);
-    neighbours(b"a neighbour at the bandwidth, trusts 0 and 1", 0.0, 1.0);
-    neighbours(b"a neighbour at the bandwidth, trusts 1 and 0", 1.0, 0.0);
-    neighbours(b"a neighbour at the bandwidth, trusts 1 and 1", 1.0, 1.0);
+fn surprises(rt: &impl Print) -> io::Result<()> {
+    three(rt, "zero times infinity", 0.0)?;
+    three(rt, "the same, fully trusted", 1.0)?;
+    two(rt, "zero times infinity, the fewest", 0.0)?;
+    two(rt, "the fewest, fully trusted", 1.0)?;
+    neighbours(rt, "a neighbour at the bandwidth, trusts 0 and 1", 0.0, 1.0)?;
+    neighbours(rt, "a neighbour at the bandwidth, trusts 1 and 0", 1.0, 0.0)?;
+    neighbours(rt, "a neighbour at the bandwidth, trusts 1 and 1", 1.0, 1.0)
 }
 
-fn alone_each() {
-    one(b"alone, trust 1e-13", 1e-13);
-    one(b"alone, trust 1e-11", 1e-11);
-    one(b"alone, trust 0", 0.0);
-    one(b"alone, trust -0", -0.0);
-    one(b"alone, trust NaN", 0.0 / 0.0);
-    one(b"alone, trust -1e-300", -1e-300);
-    one(b"alone, trust 1.0000000000000002", 1.0000000000000002);
-    one_short(b"alone, trust 2, the output too short", 2.0);
-    one_short(b"alone, trust 1, the output too short", 1.0);
+fn alone_each(rt: &impl Print) -> io::Result<()> {
+    one(rt, "alone, trust 1e-13", 1e-13)?;
+    one(rt, "alone, trust 1e-11", 1e-11)?;
+    one(rt, "alone, trust 0", 0.0)?;
+    one(rt, "alone, trust -0", -0.0)?;
+    one(rt, "alone, trust NaN", 0.0 / 0.0)?;
+    one(rt, "alone, trust -1e-300", -1e-300)?;
+    one(rt, "alone, trust 1.0000000000000002", 1.0000000000000002)?;
+    one_short(rt, "alone, trust 2, the output too short", 2.0)?;
+    one_short(rt, "alone, trust 1, the output too short", 1.0)
 }
 
-fn four_each() {
+fn four_each(rt: &impl Print) -> io::Result<()> {
     let trust = [0.5, 1.0, 0.25, 0.75];
     let distance = by_distance(GwrKernel::Gaussian, 2.0);
     let count = by_count(GwrKernel::Exponential, 2, true);
-    four(b"four by a distance", &trust, distance);
-    four(b"four by a count, searched", &trust, count);
+    four(rt, "four by a distance", &trust, distance)?;
+    four(rt, "four by a count, searched", &trust, count)?;
     four(
-        b"four by a distance, one trust too few",
+        rt,
+        "four by a distance, one trust too few",
         &trust[..3],
         distance,
-    );
+    )
 }
 
-fn main() {
-    surprises();
-    alone_each();
-    four_each();
+fn main(rt: HostRuntime) -> io::Result<()> {
+    surprises(&rt)?;
+    alone_each(&rt)?;
+    four_each(&rt)
 }

@@ -1,5 +1,7 @@
 // Fits jobs of its own making uninterrupted and in turns, compares the two, hands `turn` records and slices that it must refuse,
 // and prints counts.
+#![tactic(auto)]
+
 mod compare;
 mod lend;
 mod made;
@@ -10,6 +12,7 @@ mod tally;
 mod trusts;
 
 use setup::GwrCriterion;
+use std::io;
 use tally::Tally;
 
 // The sort of job k's trusts: all 1, or every sort in turn, each for as many jobs as there are kernels and kinds.
@@ -29,11 +32,11 @@ fn play_all(criterion: GwrCriterion, jobs: u64, trusted: bool) -> Tally {
     t
 }
 
-fn main() {
+fn main(rt: HostRuntime) -> io::Result<()> {
     let unguarded = play_all(GwrCriterion::Unguarded, 400, false);
-    report::print(refuse::refuse_unfit(unguarded));
-    report::title(b"guarded");
-    report::print(play_all(GwrCriterion::Guarded, 400, false));
-    report::title(b"trusted");
-    report::print(play_all(GwrCriterion::Unguarded, 1440, true));
+    report::print(&rt, refuse::refuse_unfit(unguarded))?;
+    report::title(&rt, "guarded")?;
+    report::print(&rt, play_all(GwrCriterion::Guarded, 400, false))?;
+    report::title(&rt, "trusted")?;
+    report::print(&rt, play_all(GwrCriterion::Unguarded, 1440, true))
 }

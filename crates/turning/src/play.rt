@@ -22,7 +22,7 @@ struct Seen {
 }
 
 // How an uninterrupted fit ended: its refusal, 0 for none, and its summary.
-#[derive(Drop)]
+#[derive(Clone, Copy)]
 struct Ending {
     number: u32,
     bandwidth: f64,

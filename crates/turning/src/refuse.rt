@@ -10,7 +10,7 @@ use stepping::{Job, Stage, Trials};
 use sweep::Sweep;
 
 // A record in numbers, and what a turn with no allowance on it must answer: a refusal, or WORKING.
-#[derive(Drop)]
+#[derive(Clone, Copy)]
 struct Row {
     stage: u32,
     kind: usize,

@@ -1,38 +1,35 @@
 // The counts, printed.
 use crate::tally::Tally;
-use libc::STDOUT_FILENO;
+use std::io;
 
-fn line(word: &[u8], v: u64) {
-    io::write_all(STDOUT_FILENO, word);
-    io::print_decimal(STDOUT_FILENO, v);
-    io::write_all(STDOUT_FILENO, b"\n");
+fn line(rt: &impl Print, word: &str, v: u64) -> io::Result<()> {
+    println!(rt; "{word}{v}")
 }
 
 // The refusals that occurred, by number.
-fn refusals(word: &[u8], counts: [u64; 100]) {
+fn refusals(rt: &impl Print, word: &str, counts: [u64; 100]) -> io::Result<()> {
     for k in 0..100usize {
         let v = counts[k];
         if 0 < v {
-            io::write_all(STDOUT_FILENO, word);
-            io::print_decimal(STDOUT_FILENO, k as u64);
-            line(b": ", v);
+            print!(rt; "{word}{k}")?;
+            line(rt, ": ", v)?;
         }
     }
+    Ok(())
 }
 
 // What stands before the counts of the jobs that are named so.
-pub fn title(name: &[u8]) {
-    io::write_all(STDOUT_FILENO, name);
-    io::write_all(STDOUT_FILENO, b":\n");
+pub fn title(rt: &impl Print, name: &str) -> io::Result<()> {
+    println!(rt; "{name}:")
 }
 
-pub fn print(t: Tally) {
-    line(b"jobs ", t.jobs);
-    line(b"lists of turns ", t.lists);
-    line(b"turns ", t.turns);
-    line(b"differences ", t.differences);
+pub fn print(rt: &impl Print, t: Tally) -> io::Result<()> {
+    line(rt, "jobs ", t.jobs)?;
+    line(rt, "lists of turns ", t.lists)?;
+    line(rt, "turns ", t.turns)?;
+    line(rt, "differences ", t.differences)?;
     let fits = t.fits;
-    refusals(b"fits that answered ", fits);
+    refusals(rt, "fits that answered ", fits)?;
     let turned = t.turned;
-    refusals(b"turns that answered ", turned);
+    refusals(rt, "turns that answered ", turned)
 }

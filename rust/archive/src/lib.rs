@@ -1,7 +1,7 @@
 //! For build scripts: links target/staticlib/libNAME.a of the repository. `scripts/prove.sh NAME` has it at hand: where it is missing,
-//! or older than the sources of the crates in it, it proves them and writes it, in some minutes and in its turn (scripts/turn.sh: cargo
-//! runs the build scripts of several packages at once). Cargo shows nothing of what a build script says until it ends, so whoever wants
-//! to see the proofs go by runs that script before cargo, as `make fit` does.
+//! or older than the sources of the crates in it, it proves them and writes it, in some minutes. Cargo runs the build scripts of several
+//! packages at once; of two rt commands in one folder the second waits. Cargo shows nothing of what a build script says until it ends, so
+//! whoever wants to see the proofs go by runs that script before cargo, as `make fit` does.
 
 use std::path::{Path, PathBuf};
 use std::process::{self, Command};
@@ -13,16 +13,19 @@ fn stop(message: &str) -> ! {
     process::exit(0);
 }
 
-/// The crates that one is made of, by the lines `NAME: DEPENDENCIES` of crates.txt.
+/// The crates that one is made of, by the lines `NAME: DEPENDENCIES` of crates.txt, or `NAME staticlib: DEPENDENCIES`.
 fn crates_of(root: &Path, name: &str) -> Vec<String> {
     let text = fs::read_to_string(root.join("crates.txt")).unwrap_or_default();
     let mut wanted = vec![name.to_string()];
     let mut next = 0;
     while let Some(name) = wanted.get(next).cloned() {
         next += 1;
-        let line = text
-            .lines()
-            .find_map(|l| l.strip_prefix(name.as_str())?.strip_prefix(':'));
+        let line = text.lines().find_map(|l| {
+            let rest = l.strip_prefix(name.as_str())?;
+            rest.strip_prefix(" staticlib")
+                .unwrap_or(rest)
+                .strip_prefix(':')
+        });
         for dependency in line.unwrap_or_default().split_whitespace() {
             if !wanted.iter().any(|w| w == dependency) {
                 wanted.push(dependency.to_string());
