@@ -6,7 +6,7 @@ cd "$(dirname "$0")/.." || exit 2
 
 # found: each function with no `ensures` before its body, as 'crate::module function'.
 found() {
-    find crates -path '*/src/*.rt' | while read -r file; do
+    find crates -path '*/src/*.rt' ! -path '*/out/*' | while read -r file; do
         module=${file#crates/}
         module=${module%.rt}
         module=${module/\/src\//::}

@@ -1,6 +1,6 @@
 #!/usr/bin/env bash
 # The table of definitions in README: every file of specs/ stands in it once, with the number of its lines.
-# And what a reader must believe ends in specs/: no definition there, and no contract, imports from proofs/.
+# And what a reader must believe ends in specs/ and the standard library: no definition there, and no contract, imports from proofs/.
 # `reading.sh` says what is wrong; `reading.sh fix` writes the numbers anew.
 set -u
 cd "$(dirname "$0")/.." || exit 2
@@ -14,7 +14,7 @@ if [ "${1:-}" = fix ]; then
     done
 fi
 
-wanted=$(find crates -path '*/specs/*.antt' ! -name Lib.antt | sort)
+wanted=$(find crates -path 'crates/*/specs/*.antt' ! -path '*/out/*' ! -name Lib.antt | sort)
 listed=$(rows | cut -d' ' -f2 | sort)
 wrong=$(
     diff <(echo "$wanted") <(echo "$listed") | grep '^[<>]'
@@ -22,7 +22,8 @@ wrong=$(
         file=${file// /}
         [ "$(wc -l <"$file")" -eq "${lines:-0}" ] || echo "$file has not $lines lines"
     done 2>&1
-    find crates -path '*/specs/*.antt' -o -path '*/src/*.rt' | sort | xargs grep -nE '^ *(ghost |unfoldable )?(pub )?use [^ ]*(\.|·)proofs(\.|·|;| |$)' |
+    find crates ! -path '*/out/*' \( -path '*/specs/*.antt' -o -path '*/src/*.rt' \) | sort |
+        xargs grep -nE '^ *(ghost |unfoldable )?(pub )?use [^ ]*\.proofs(\.|;| |$)' | grep -v 'use Rattle\.std\.proofs\.' |
         sed 's/^/imports from proofs: /'
 )
 [ -z "$wrong" ] || { echo "$wrong"; exit 1; }

@@ -38,7 +38,7 @@ summary_solves s v h =
     ap (λ (l : List ℕ). load_of l 16) (shape ∙ ap (λ (l : List ℕ). l ++ (three ++ rest)) front)
     ∙ load_stored (one ++ two) 16 v.solves rest (omega (arith, long)) h
 
--- the number is 0 or a refusal's, which is at most mostNumber; where it is 0, the solve count is at most 512·103
+-- the number is 0 or a refusal's, which is at most `most_number`; where it is 0, the solve count is at most 512·103
 pub record Answered (a : AfterCall) : Type 0 where
   pub number : a.0 ≤ most_number
   pub solves : a.0 ≡ 0 → load_of a.1.1 16 ≤ 52736

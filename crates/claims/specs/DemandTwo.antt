@@ -1,6 +1,6 @@
 -- Demand 2: document 01 sets the steps of exp and ln and adds limits; else the Rust rules. Kernels, golden section, AICc and square root are held against their published definitions, the listed spots apart.
 -- Definitions only; proofs/DemandTwo proves it, each part by a theorem of the crate that has the definition.
--- That `gwr_fit` equals `gwr_fit`, in every bit of its answer and its output and on every input, is its contract; `gwr_fit` is 000's `gwr_fit` line by line, the default count apart, of unguarded jobs whose data ask for no trusts; with 02's line added of guarded ones, and with 02's product in each weight where there are trusts. Here is what it says beyond that.
+-- That the function `gwr_fit` equals the definition of its name, in every bit of its answer and its output and on every input, is its contract; the definition is 000's `gwr_fit` line by line, the default count apart, of unguarded jobs whose data ask for no trusts; with 02's line added of guarded ones, and with 02's product in each weight where there are trusts. Here is what it says beyond that.
 use Rattle.std.specs.Prelude.{ℕ, ◌+◌, ◌-◌, ◌*◌, ◌/◌, ◌%◌, ◌^◌, ◌≤◌, ◌<◌, min, max, ◌≡◌, Bool, true, false, not, cond, T, pos, length, Float}
 use mathlib.Core.List.{List, [], ◌∷◌, Permᴰ}
 use Rattle.std.specs.Float.{nan, inf, fin, binary64}

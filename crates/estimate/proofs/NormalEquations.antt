@@ -22,7 +22,7 @@ use Rattle.estimate.specs.Inverse.{inverse_cell}
 use Rattle.estimate.specs.Estimate.{fit_coefficients}
 use Rattle.estimate.specs.NormalEquations.{power_units, units_of, units_of_one, sum_below, cell_at, design_at, moment_at, Solves, Exact, ExactFit}
 
--- ---- the units: m · 2^e is m · powerUnits e of 2^-1074
+-- ---- the units: m · 2^e is m · power_units e of 2^-1074
 module _ (l m : ℕ) where
   raised : (k : ℕ) → m * 2 ^ k * 2 ^ l ≡ m * 2 ^ (l + k) * 1
   raised k = rw (pow-add 2 l k) (omega arith)
@@ -47,7 +47,7 @@ units_value s (suc m) (negsuc k) h =
     (leb→le (2 ^ suc k) (2 ^ 1074) (and_r (eqb (suc m % 2) 1 && ltb (suc m) (2 ^ 53)) (leb (2 ^ suc k) (2 ^ 1074))
     (and_l (eqb (suc m % 2) 1 && ltb (suc m) (2 ^ 53) && leb (2 ^ suc k) (2 ^ 1074)) (ltb (suc m * 1) (2 ^ 1024 * 2 ^ suc k)) h)))
 
--- ---- laws of whole numbers that the library leaves out: the product distributes over the sumBelow, and is associative
+-- ---- laws of whole numbers that the library leaves out: the product distributes over the sum, and is associative
 swap4 : (a b c d : ℤ) → a +ℤ b +ℤ (c +ℤ d) ≡ a +ℤ c +ℤ (b +ℤ d)
 swap4 a b c d =
     +ℤ_assoc a b (c +ℤ d)

@@ -141,7 +141,7 @@ pub fn values_at(
     sum: f64,
 ) -> Values
     requires shaped { Shaped u (data_of coords.now x.now y.now) }
-    requires i_lt_n { i < u.n }
+    requires is_location { i < u.n }
     ensures { result ≡ values_at u (data_of coords.now x.now y.now) w.now i inverse.now beta sum }
 {
     let row = normal::design_row(x, u.n, u.p, i);

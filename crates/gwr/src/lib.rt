@@ -40,7 +40,7 @@ fn final_of(
 ) -> Fit
     requires shaped { Shaped u (trusted_data coords.now x.now y.now trust.now) }
     requires usable { Usable b }
-    requires room_for { RoomFor true u (length out.old) × (before ≤ 512 * 102) }
+    requires room { RoomFor true u (length out.old) × (before ≤ 512 * 102) }
     ensures { (result, out.new) ≡ final_of u (trusted_data coords.now x.now y.now trust.now) b before out.old }
 {
     let s = sweep::fit_all_locations(coords, x, y, trust, u, b, true, out);
@@ -66,7 +66,7 @@ fn sought_of(
     out: &mut [f64],
 ) -> Fit
     requires shaped { Shaped u (trusted_data coords.now x.now y.now trust.now) }
-    requires room_for { RoomFor true u (length out.old) }
+    requires room { RoomFor true u (length out.old) }
     ensures { (result, out.new) ≡ sought_of u (trusted_data coords.now x.now y.now trust.now) lo hi out.old }
 {
     let found = search::optimize_bandwidth(coords, x, y, trust, u, lo, hi);

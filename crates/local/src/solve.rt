@@ -20,7 +20,7 @@ fn solve_local(
     b: f64,
 ) -> Solved
     requires shaped { Shaped u (trusted_data coords.now x.now y.now trust.now) }
-    requires i_lt_n { i < u.n }
+    requires is_location { i < u.n }
     ensures { result ≡ solve_local u (trusted_data coords.now x.now y.now trust.now) i b }
 {
     let mut w = [0.0; 512];
@@ -66,7 +66,7 @@ pub fn solve_location(
 ) -> Solved
     requires shaped { Shaped u (trusted_data coords.now x.now y.now trust.now) }
     requires usable { Usable bandwidth }
-    requires i_lt_n { i < u.n }
+    requires is_location { i < u.n }
     ensures { result ≡ solve_location u (trusted_data coords.now x.now y.now trust.now) bandwidth i }
 {
     let b = neighbours::local_bandwidth_distance(coords, u.n, i, bandwidth);

@@ -12,7 +12,7 @@ use Rattle.neighbours.specs.declared.Own.{Own}
 use Rattle.neighbours.specs.declared.Own.TheVariants.{At, Nobody}
 use Rattle.neighbours.specs.Walk.{Walk, unmet, walk_on, found_by, squares_from, walk_in, Holds}
 use Rattle.neighbours.proofs.Walks.{walk_few, held_is}
-use Rattle.neighbours.proofs.Smallest.{get_d_any}
+use Rattle.neighbours.proofs.Smallest.{get_or_any}
 use Rattle.measured.specs.Walks.{own_by, end_of, walks_of, asked_of}
 
 -- ---- the own pantry
@@ -28,7 +28,7 @@ module _ (i n : ℕ) where
 -- ---- a sum by its place
 module _ (l : List Float) (met at : ℕ) (few : met ≤ 512) (long : length l ≡ 512) where
   pub sum_there : at < met → get_or l at nan ≡ get_or (take met l) at zero64
-  sum_there h = sym (get_or-take met l at nan h) ∙ get_d_any (take met l) at nan zero64 (omega (arith, length-take-le met l (omega arith)))
+  sum_there h = sym (get_or-take met l at nan h) ∙ get_or_any (take met l) at nan zero64 (omega (arith, length-take-le met l (omega arith)))
 
   pub sum_none : met ≤ at → zero64 ≡ get_or (take met l) at zero64
   sum_none h = sym (get_or-eq_default (take met l) zero64 (omega (arith, length-take-le met l (omega arith))))

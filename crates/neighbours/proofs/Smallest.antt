@@ -62,10 +62,10 @@ module _ (own : Own) (d : ℕ → Float) (m : ℕ) (numbers : (j : ℕ) → j < 
   all_up = kept (insert_step own d) 0 m Ascending one_up [] (omega arith) record { ordered = λ a b h k. absurd (not-suc-le-zero k) }
 
 -- ---- what stands at a place, whatever stands for none
-pub get_d_any : (l : List Float) (i : ℕ) (a b : Float) → i < length l → get_or l i a ≡ get_or l i b
-get_d_any [] i a b h = absurd (not-suc-le-zero h)
-get_d_any (x ∷ l) zero a b h = refl
-get_d_any (x ∷ l) (suc i) a b h = get_d_any l i a b (omega arith)
+pub get_or_any : (l : List Float) (i : ℕ) (a b : Float) → i < length l → get_or l i a ≡ get_or l i b
+get_or_any [] i a b h = absurd (not-suc-le-zero h)
+get_or_any (x ∷ l) zero a b h = refl
+get_or_any (x ∷ l) (suc i) a b h = get_or_any l i a b (omega arith)
 
 -- ---- the k-th smallest, by amounts
 module _ (l : List Float) (k : ℕ) (v : Float) where
@@ -189,7 +189,7 @@ module _ (coords : List Float) (east north : Float) (own : Own) (n : ℕ) (e : T
         let number = (nonneg_number r q).0 in
         let x = get_or all c nan in
         let o = all_from_zero c within in
-        get_d_any all c zero64 nan within
+        get_or_any all c zero64 nan within
         ∙ one_only x r (held x o) (root_fits v (held v t) (above v t)) (above x o) q
         (by_at_most all all_ascending c within r number (omega (arith, lifted)))
         (by_below all all_ascending c within r number (omega (arith, lowered)))

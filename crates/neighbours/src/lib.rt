@@ -34,7 +34,7 @@ pub fn nearest_from(coords: &[f64], n: usize, east: f64, north: f64, own: Own, k
 
 // 000's `local_bandwidth_distance`.
 pub fn local_bandwidth_distance(coords: &[f64], n: usize, i: usize, bandwidth: GwrBandwidth) -> f64
-    requires coords_len { (length coords.now ≡ 2 * n) × (i < n) × (n ≤ 512) }
+    requires lengths { (length coords.now ≡ 2 * n) × (i < n) × (n ≤ 512) }
     requires usable { Usable bandwidth }
     ensures { result ≡ local_bandwidth_distance coords.now n i bandwidth }
 {

@@ -69,8 +69,8 @@ pub fn walk_on(
     own: Own,
     sums: &mut [f64; 512],
 ) -> Walker
-    requires from_le_to { (from ≤ to) × (2 * to ≤ length coords.now) × (start.met + (to - from) ≤ 512) }
-    requires sums_len { length sums.old ≡ 512 }
+    requires in_order { (from ≤ to) × (2 * to ≤ length coords.now) × (start.met + (to - from) ≤ 512) }
+    requires long { length sums.old ≡ 512 }
     ensures { Holds (walk_on own (squares_from coords.now east north) from to (walk_in sums.old start.met start.greatest)) sums.old sums.new result.met result.greatest }
 {
     let mut w = start;

@@ -83,7 +83,7 @@ fn plan_options_at(u: Setup, hi: f64) -> Acceptance
 
 // The same of the coordinates. The greatest pair distance is asked for only where a distance is sought.
 pub fn plan_options(coords: &[f64], u: Setup) -> Acceptance
-    requires coords_len { length coords.now ≡ 2 * u.n }
+    requires lengths { length coords.now ≡ 2 * u.n }
     requires sized { Sized u }
     ensures { result ≡ plan_options_at u (greatest_distance coords.now u.n) }
 {

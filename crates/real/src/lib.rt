@@ -164,8 +164,8 @@ fn rounded(x: f64) -> u64
 
 // Rust's `(x.round() as usize).clamp(lo, hi)`: halves are rounded away from zero, and NaN and negative numbers give lo.
 pub fn round_into(x: f64, lo: usize, hi: usize) -> usize
-    requires lo_le_hi { lo ≤ hi }
-    requires hi_bound { hi ≤ 2 ^ 32 }
+    requires in_order { lo ≤ hi }
+    requires small { hi ≤ 2 ^ 32 }
     ensures { Into lo hi (round_into x lo hi) result }
 {
     if x > 0.0 {

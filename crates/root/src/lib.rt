@@ -39,8 +39,8 @@ fn halved(sig: u64, size: u64) -> Parts
 // The parts of the number of units of 2^-1074 in the positive finite f64 with the pattern b. A subnormal is shifted by its
 // leading zeros, and a normal number has its leading digit put back.
 fn split(b: u64) -> Parts
-    requires b_nonzero { 0 < b }
-    requires b_bound { b < 2047 * 2 ^ 52 }
+    requires not_zero { 0 < b }
+    requires finite_pattern { b < 2047 * 2 ^ 52 }
     ensures { Parted (units_of_bits b * 2 ^ 106) (size (units_of_bits b)) result.a result.h }
 {
     let field = b / 0x10_0000_0000_0000;
@@ -54,8 +54,8 @@ fn split(b: u64) -> Parts
 
 // The root of a number above zero and below infinity, y a guess. The exponent's field and the root's leading digit are added up.
 fn positive(x: f64, y: f64) -> f64
-    requires x_value { lt zero64 x ≡ true }
-    requires inf64_value { lt x inf64 ≡ true }
+    requires above_zero { lt zero64 x ≡ true }
+    requires below_infinity { lt x inf64 ≡ true }
     ensures { result ≡ root_units (in_units x) }
 {
     let b = f64::to_bits(x);

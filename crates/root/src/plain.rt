@@ -36,7 +36,7 @@ fn digits(a: u64) -> Root
 // The number nearest to the root of a * 2^52, from the whole root and what is left: the root lies above q + 1/2 where q < rem.
 fn rounded(r: Root, a: u64) -> u64
     requires rooted { Rooted (a * 2 ^ 52) r.q r.rem }
-    requires bound { (2 ^ 52 ≤ a) × (a < 2 ^ 54 - 1) }
+    requires in_range { (2 ^ 52 ≤ a) × (a < 2 ^ 54 - 1) }
     ensures { result ≡ nearest_root (a * 2 ^ 52) }
 {
     if r.q < r.rem { r.q + 1 } else { r.q }

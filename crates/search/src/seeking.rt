@@ -51,7 +51,7 @@ fn round_of(
 ) -> Search
     requires shaped { Shaped u (trusted_data coords.now x.now y.now trust.now) }
     requires remembered { Remembered u (trusted_data coords.now x.now y.now trust.now) tried.old scores.old }
-    requires solves_bound { s.solves ≤ 512 * 102 }
+    requires few_solves { s.solves ≤ 512 * 102 }
     ensures value { result ≡ round_of u (trusted_data coords.now x.now y.now trust.now) r s }
     ensures still_remembered { Remembered u (trusted_data coords.now x.now y.now trust.now) tried.new scores.new }
 {

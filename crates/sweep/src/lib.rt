@@ -117,8 +117,8 @@ impl Swept {
 
 // Row i, where rows are written and the location was solved.
 pub fn write_row(out: &mut [f64], rows: bool, u: Setup, i: usize, solved: Solved)
-    requires n_bound { (u.n ≤ 512) × (u.p ≤ 7) × (i < u.n) }
-    requires room_for { RoomFor rows u (length out.old) }
+    requires sizes { (u.n ≤ 512) × (u.p ≤ 7) × (i < u.n) }
+    requires room { RoomFor rows u (length out.old) }
     ensures { out.new ≡ row_after rows u i solved out.old }
 {
     let outcome = solved.outcome;
@@ -146,8 +146,8 @@ fn visit(
 ) -> Swept
     requires shaped { Shaped u (trusted_data coords.now x.now y.now trust.now) }
     requires usable { Usable b }
-    requires i_lt_n { (i < u.n) × (s.sweep.location ≤ i) }
-    requires room_for { RoomFor rows u (length out.old) }
+    requires is_location { (i < u.n) × (s.sweep.location ≤ i) }
+    requires room { RoomFor rows u (length out.old) }
     ensures { (result, out.new) ≡ visit rows u (trusted_data coords.now x.now y.now trust.now) b i (s, out.old) }
 {
     let course = s.course;
@@ -176,7 +176,7 @@ pub fn fit_all_locations(
 ) -> Swept
     requires shaped { Shaped u (trusted_data coords.now x.now y.now trust.now) }
     requires usable { Usable b }
-    requires room_for { RoomFor rows u (length out.old) }
+    requires room { RoomFor rows u (length out.old) }
     ensures { (result, out.new) ≡ fit_all_locations rows u (trusted_data coords.now x.now y.now trust.now) b out.old }
 {
     let sweep = Sweep::new();

@@ -24,7 +24,7 @@ pub fn weigh(
     w: &mut [f64; 512],
 ) -> f64
     requires shaped { Shaped u (trusted_data coords.now x.now y.now trust.now) }
-    requires w_value { w.old ≡ replicate 512 zero64 }
+    requires zeros { w.old ≡ replicate 512 zero64 }
     ensures { (w.new, result) ≡ weights_from u (trusted_data coords.now x.now y.now trust.now) east north b }
 {
     let n = u.n;

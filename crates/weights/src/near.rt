@@ -9,8 +9,8 @@ use kernel::GwrKernel;
 
 // A guess at the distance of each observation from (east, north), into y. How near they come is not claimed.
 fn guess_all(coords: &[f64], n: usize, east: f64, north: f64, y: &mut [f64; 512])
-    requires coords_len { (length coords.now ≡ 2 * n) × (n ≤ 512) }
-    requires y_len { length y.old ≡ 512 }
+    requires lengths { (length coords.now ≡ 2 * n) × (n ≤ 512) }
+    requires long { length y.old ≡ 512 }
     ensures { length y.new ≡ 512 }
 {
     for j in 0..n {
@@ -20,9 +20,9 @@ fn guess_all(coords: &[f64], n: usize, east: f64, north: f64, y: &mut [f64; 512]
 
 // The distance of each observation from (east, north), into y, which holds guesses at them.
 fn settle_all(coords: &[f64], n: usize, east: f64, north: f64, y: &mut [f64; 512])
-    requires coords_len { (length coords.now ≡ 2 * n) × (n ≤ 512) }
-    requires y_len { length y.old ≡ 512 }
-    ensures y_len_2 { length y.new ≡ 512 }
+    requires lengths { (length coords.now ≡ 2 * n) × (n ≤ 512) }
+    requires long { length y.old ≡ 512 }
+    ensures still_long { length y.new ≡ 512 }
     ensures filled { Filled (near_distance coords.now east north) n y.new }
 {
     for j in 0..n {
@@ -79,7 +79,7 @@ pub fn weigh_within(
     reach: f64,
     w: &mut [f64; 512],
 ) -> f64
-    requires coords_len { (length coords.now ≡ 2 * n) × (length trust.now ≡ n) × (n ≤ 512) }
+    requires lengths { (length coords.now ≡ 2 * n) × (length trust.now ≡ n) × (n ≤ 512) }
     requires reach { Reach kernel b reach }
     ensures { (w.new, result) ≡ near_weights kernel coords.now trust.now n east north b w.old }
 {

@@ -475,7 +475,7 @@ mod default_counts {
             "/../../crates/examples/specs/DefaultCounts.antt"
         );
         let text = std::fs::read_to_string(file).expect("the table is there");
-        let (_, text) = text.split_once("lastOfEach =").expect("its definition");
+        let (_, text) = text.split_once("last_of_each =").expect("its definition");
         let (text, _) = text.split_once("\n\n").expect("its end");
         let numbers = |row: &str| {
             let words = row.split(|c: char| !c.is_ascii_digit());

@@ -5,7 +5,7 @@ use Rattle.calls.proofs.answer_bytes.Goals as goal
 
 pub store_rows-requires : goal.store_rows-requires
 store_rows-requires c =
-    let w = (let a = c.args in answer_writable a.answer _ a.count (length a.rows.now) (length a.out.now) (length a.summary.now) c.in-Done.is c.requires) in (w.there, w.bytes)
+    let w = let a = c.args in answer_writable a.answer _ a.count (length a.rows.now) (length a.out.now) (length a.summary.now) c.in-Done.is c.requires in (w.there, w.bytes)
 
 pub store_summary-requires : goal.store_summary-requires
 store_summary-requires c =
@@ -13,7 +13,7 @@ store_summary-requires c =
 
 pub store_rows-requires-in-Fitted : goal.store_rows-requires-in-Fitted
 store_rows-requires-in-Fitted c =
-    let w = (let a = c.args in answer_writable a.answer _ a.count (length a.rows.now) (length a.out.now) (length a.summary.now) c.in-Done.is c.requires) in (w.there, w.bytes)
+    let w = let a = c.args in answer_writable a.answer _ a.count (length a.rows.now) (length a.out.now) (length a.summary.now) c.in-Done.is c.requires in (w.there, w.bytes)
 
 pub store_summary-requires-in-Fitted : goal.store_summary-requires-in-Fitted
 store_summary-requires-in-Fitted c =

@@ -13,7 +13,7 @@ solves-solves-requires c =
 pub overflow_add-before : goal.overflow_add-before
 overflow_add-before c =
     let h = solves_made _ _ _ _ _ _ c.requires.shaped.sized.few c.fit_all_locations-s.ensures _ c.solves-solves.ensures in
-    omega (arith, h, c.requires.room_for.1)
+    omega (arith, h, c.requires.room.1)
 
 pub returns : goal.returns
 returns c =

@@ -8,12 +8,12 @@ use Rattle.gwr.proofs.gwr_fit.Goals as goal
 pub final_of-requires : goal.final_of-requires
 final_of-requires c =
     let a = accept_planned _ _ _ _ (sym c.accept-acceptance.ensures ∙ c.in-Planned.is) in
-    record { shaped = a.accepted.shaped; usable = (subst (Serves _) c.in-Settled.is a.serves).0; room_for = (a.accepted.room, omega arith) }
+    record { shaped = a.accepted.shaped; usable = (subst (Serves _) c.in-Settled.is a.serves).0; room = (a.accepted.room, omega arith) }
 
 pub sought_of-requires : goal.sought_of-requires
 sought_of-requires c =
     let a = accept_planned _ _ _ _ (sym c.accept-acceptance.ensures ∙ c.in-Planned.is) in
-    record { shaped = a.accepted.shaped; room_for = a.accepted.room }
+    record { shaped = a.accepted.shaped; room = a.accepted.room }
 
 pub returns-in-Refused : goal.returns-in-Refused
 returns-in-Refused c = fit_is _ _ _ _ _ _ (sym c.accept-acceptance.ensures ∙ c.in-Refused.is) refl

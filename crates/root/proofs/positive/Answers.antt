@@ -13,11 +13,11 @@ use Rattle.root.proofs.positive.Goals as goal
 
 pub float_to_bits-b : goal.float_to_bits-b
 float_to_bits-b c =
-    ((pattern c.args.x (subst T (sym c.well_formed.0.1) tt) c.requires.x_value c.requires.inf64_value)).number
+    (pattern c.args.x (subst T (sym c.well_formed.0.1) tt) c.requires.above_zero c.requires.below_infinity).number
 
 pub split-p-requires : goal.split-p-requires
 split-p-requires c =
-    record { b_nonzero = ((pattern c.args.x (subst T (sym c.well_formed.0.1) tt) c.requires.x_value c.requires.inf64_value)).above; b_bound = ((pattern c.args.x (subst T (sym c.well_formed.0.1) tt) c.requires.x_value c.requires.inf64_value)).below }
+    record { not_zero = (pattern c.args.x (subst T (sym c.well_formed.0.1) tt) c.requires.above_zero c.requires.below_infinity).above; finite_pattern = (pattern c.args.x (subst T (sym c.well_formed.0.1) tt) c.requires.above_zero c.requires.below_infinity).below }
 
 pub overflow_add-result-2 : goal.overflow_add-result-2
 overflow_add-result-2 c = let b = held c.split-p.ensures c.quick-q.ensures in omega arith
@@ -28,7 +28,7 @@ float_from_bits-result c = let b = held c.split-p.ensures c.quick-q.ensures in n
 pub returns : goal.returns
 returns c =
     let p = c.split-p in
-    let d = subst (λ (n : ℕ). PartedUnits n p.result.a p.result.h) ((pattern c.args.x (subst T (sym c.well_formed.0.1) tt) c.requires.x_value c.requires.inf64_value)).units_are p.ensures in
+    let d = subst (λ (n : ℕ). PartedUnits n p.result.a p.result.h) (pattern c.args.x (subst T (sym c.well_formed.0.1) tt) c.requires.above_zero c.requires.below_infinity).units_are p.ensures in
     let r = c.quick-q in
     let b = held p.ensures r.ensures in
     assembled r.result (p.result.h + 484) b.0 b.1 (omega (arith, p.ensures.short))

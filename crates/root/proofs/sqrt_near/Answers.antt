@@ -11,7 +11,7 @@ float_from_bits-t-4 c = tt
 
 pub positive-requires : goal.positive-requires
 unfolding of_bits
-positive-requires c = record { x_value = c.if-x.true; inf64_value = c.if-x-2.true }
+positive-requires c = record { above_zero = c.if-x.true; below_infinity = c.if-x-2.true }
 
 pub returns-then-x-2 : goal.returns-then-x-2
 unfolding of_bits

@@ -18,7 +18,7 @@ loop-i-init c =
 pub visit-s-requires : goal.visit-s-requires
 visit-s-requires c =
     let l = c.loop-i.invariant in
-    record { shaped = c.requires.shaped; usable = c.requires.usable; i_lt_n = (search rules, l.1); room_for = subst⁻¹ (RoomFor c.args.rows c.args.u) l.2 c.requires.room_for }
+    record { shaped = c.requires.shaped; usable = c.requires.usable; is_location = (search rules, l.1); room = subst⁻¹ (RoomFor c.args.rows c.args.u) l.2 c.requires.room }
 
 pub loop-i-preserved : goal.loop-i-preserved
 loop-i-preserved c =

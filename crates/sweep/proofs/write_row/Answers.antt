@@ -10,8 +10,8 @@ use Rattle.sweep.proofs.write_row.Goals as goal
 
 pub put_row-requires : goal.put_row-requires
 put_row-requires c =
-    let room : c.args.u.n * (c.args.u.p + 4) ≤ length c.args.out.now = subst (λ (b : Bool). RoomFor b c.args.u (length c.args.out.now)) c.if-rows.true c.requires.room_for in
-    (omega (arith, c.requires.n_bound.1), c.requires.n_bound.2, c.requires.n_bound.0, let e : c.args.u.p + 1 + 3 ≡ c.args.u.p + 4 = omega arith in rw e room)
+    let room : c.args.u.n * (c.args.u.p + 4) ≤ length c.args.out.now = subst (λ (b : Bool). RoomFor b c.args.u (length c.args.out.now)) c.if-rows.true c.requires.room in
+    (omega (arith, c.requires.sizes.1), c.requires.sizes.2, c.requires.sizes.0, let e : c.args.u.p + 1 + 3 ≡ c.args.u.p + 4 = omega arith in rw e room)
 
 pub returns-in-Found : goal.returns-in-Found
 returns-in-Found c = row_put _ _ _ _ _ _ _ c.if-rows.true c.in-Found.is c.put_row.ensures

@@ -8,7 +8,7 @@ use Rattle.plan.proofs.planning.accept.Goals as goal
 
 pub plan_options-requires : goal.plan_options-requires
 plan_options-requires c =
-    let a = (input_accepted (trusted_data _ _ _ _) _ _ _ (sym c.check_input-input.ensures ∙ c.in-Pass.is)).shaped in record { coords_len = a.places; sized = a.sized }
+    let a = (input_accepted (trusted_data _ _ _ _) _ _ _ (sym c.check_input-input.ensures ∙ c.in-Pass.is)).shaped in record { lengths = a.places; sized = a.sized }
 
 pub returns-in-Refused : goal.returns-in-Refused
 returns-in-Refused c = search (accept_refused, read)

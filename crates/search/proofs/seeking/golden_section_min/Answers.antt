@@ -24,7 +24,7 @@ loop-r-init c =
 pub round_of-s-requires : goal.round_of-s-requires
 round_of-s-requires c =
     let shaped = c.requires in
-    record { shaped = shaped; remembered = c.loop-r.invariant.1; solves_bound = rounds_made _ _ shaped.sized.few _ _ _ c.loop-r.invariant.0.is c.loop-r.invariant.0.high }
+    record { shaped = shaped; remembered = c.loop-r.invariant.1; few_solves = rounds_made _ _ shaped.sized.few _ _ _ c.loop-r.invariant.0.is c.loop-r.invariant.0.high }
 
 pub loop-r-preserved : goal.loop-r-preserved
 loop-r-preserved c =

@@ -11,7 +11,7 @@ returns-then-s c =
 pub overflow_add-result : goal.overflow_add-result
 overflow_add-result c =
     let h = trial_made _ _ c.requires.shaped.sized.few _ _ c.trial_of-t.ensures.value in
-    omega (arith, h, c.requires.solves_bound)
+    omega (arith, h, c.requires.few_solves)
 
 pub returns : goal.returns
 returns c =

@@ -5,12 +5,12 @@ use Rattle.stepping.proofs.Job.step.Goals as goal
 
 pub solve_location-solved-requires : goal.solve_location-solved-requires
 solve_location-solved-requires c =
-    record { shaped = c.requires.shaped; usable = sound_usable c.requires.sound; i_lt_n = c.requires.sound.within }
+    record { shaped = c.requires.shaped; usable = sound_usable c.requires.sound; is_location = c.requires.sound.within }
 
 pub write_row-requires : goal.write_row-requires
 write_row-requires c =
     let j = c.requires.sound in
-    record { n_bound = (j.sized.few, j.sized.narrow, j.within); room_for = room_for c.is_final.result c.args.self.setup _ c.requires.room }
+    record { sizes = (j.sized.few, j.sized.narrow, j.within); room = room_for c.is_final.result c.args.self.setup _ c.requires.room }
 
 pub returns : goal.returns
 returns c =
