@@ -14,7 +14,7 @@ use lib.Ieee.Positive.{num, den, den_pos}
 use Rattle.real.proofs.SignedOrder.{P, N, SLe, sgn, le→sle, le_self}
 use Rattle.real.proofs.Closed.{one, half, nought}
 use Rattle.exponent_table.specs.Reduction.{floor708, exp_k, exp_rest, two_to_minus}
-use Rattle.exponent_table.proofs.Table.{vl, vh, kHI, kLO}
+use Rattle.exponent_table.proofs.Table.{vl, vh, k_hi, k_lo}
 use Rattle.elementary.specs.Exp.{exp_step, exp_steps}
 use Rattle.elementary.specs.Ln.{three_halves}
 use Rattle.elementary.proofs.StepsRange.{s_in, step_is, steps_is, steps_zero}
@@ -87,8 +87,8 @@ module _ (v : Float) (F : T (fits binary64 v)) (low : T (le floor708 v)) (high :
       let w = units_of v F fv in
       let n = w.0 * 2 ^ w.1 in
       let q = reduced (sgn v) U E CL (k * XL) (num v) (den v) (hi_units k) (lo_units k) n u_pos c_pos not_above (cross v (sgn v) n U w.3).0 row.both between row.low_small e_small in
-      let a = add_near v (kHI k) (sgn v) false n (hi_units k) U w.3 row.high (lit< tt) (first_small q) in
-      let b = add_near (add binary64 v (kHI k)) (kLO k) a.0 false a.1 (lo_units k) U a.2 row.low (lit< tt) (second_small q (P a.0 a.1) (N a.0 a.1) a.3) in
+      let a = add_near v (k_hi k) (sgn v) false n (hi_units k) U w.3 row.high (lit< tt) (first_small q) in
+      let b = add_near (add binary64 v (k_hi k)) (k_lo k) a.0 false a.1 (lo_units k) U a.2 row.low (lit< tt) (second_small q (P a.0 a.1) (N a.0 a.1) a.3) in
       (b.0, b.1, rw (r_is v k) b.2, sums_near q (P a.0 a.1) (N a.0 a.1) (P b.0 b.1) (N b.0 b.1) a.3 b.3)
 
   near : (S : ℕ) × HasValue s false S U × NearSteps S c (x - y) (y - x)

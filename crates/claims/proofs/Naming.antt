@@ -8,7 +8,7 @@ use lib.ListN.{length}
 use lib.Ieee.{Float}
 use Rattle.checks.specs.declared.Check.TheVariants as check
 use Rattle.local.specs.declared.Outcome.TheVariants as outcome
-use Rattle.claims.specs.Words.{Row, ruled, judge, NoneOf, Check, GwrKernel, GwrCriterion, GwrBandwidth, AdaptiveKnn, Setup, Data, setup_of, resolve_count, weight_from, weights_from, normal_step, equations_of, eliminated_of, coefficients_under, fit_coefficients, squares_step, sum_squares, localRSquared, values_at, solve_local, solve_location, Outcome, Solved, corrected_aic, Criterion, unusable_given, seeks_distance, nothing_between, option_tests_at, fit_tests, resolve_initial_bandwidth, plan_at, accepted, accept_of, Acceptance, Settled, row_found, after_solve, visit_at, visit, fit_all_locations, ending_at, Course, Going, Stopped, Sweep, Swept, solves_of, finish_of, answered, fit_from, final_of, gwr_fit}
+use Rattle.claims.specs.Words.{Row, ruled, judge, NoneOf, Check, GwrKernel, GwrCriterion, GwrBandwidth, AdaptiveKnn, Setup, Data, setup_of, resolve_count, weight_from, weights_from, normal_step, equations_of, eliminated_of, coefficients_under, fit_coefficients, squares_step, sum_squares, local_r_squared, values_at, solve_local, solve_location, Outcome, Solved, corrected_aic, Criterion, unusable_given, seeks_distance, nothing_between, option_tests_at, fit_tests, resolve_initial_bandwidth, plan_at, accepted, accept_of, Acceptance, Settled, row_found, after_solve, visit_at, visit, fit_all_locations, ending_at, Course, Going, Stopped, Sweep, Swept, solves_of, finish_of, answered, fit_from, final_of, gwr_fit}
 use Rattle.claims.specs.DemandTwo.{by_count}
 use Rattle.claims.proofs.Laws.{related, named_count}
 use Rattle.gwr.specs.declared.FitAnswer.TheVariants as fit
@@ -23,7 +23,7 @@ module _ (d : Data) (c : GwrCriterion) (kernel : GwrKernel) (n p j k : ℕ) (b :
   v = record { options = by_count c kernel k; n = n; p = p }
 
   solve_blind : (i : ℕ) → solve_location u d b i ≡ solve_location v d b i
-  unfolding solve_location solve_local weights_from weight_from fit_coefficients coefficients_under eliminated_of equations_of normal_step values_at localRSquared sum_squares squares_step
+  unfolding solve_location solve_local weights_from weight_from fit_coefficients coefficients_under eliminated_of equations_of normal_step values_at local_r_squared sum_squares squares_step
   solve_blind i = refl
 
   row_blind : (o : Outcome) (i : ℕ) (beta : Row) (out : List Float) → row_found o u i beta out ≡ row_found o v i beta out

@@ -50,7 +50,7 @@ pub use Rattle.estimate.specs.Estimate.{refused_with}
 unfoldable pub use Rattle.estimate.specs.Estimate.{coefficients_of, coefficients_finite, from_inverse, eliminated_of, coefficients_under, fit_coefficients}
 unfoldable pub use Rattle.estimate.specs.Inverse.{inverse_finite, inverse_cell}
 pub use Rattle.estimate.specs.NormalEquations.{ExactFit, Solves}
-unfoldable pub use Rattle.evaluate.specs.Evaluate.{squares_step, sum_squares, localRSquared, values_at}
+unfoldable pub use Rattle.evaluate.specs.Evaluate.{squares_step, sum_squares, local_r_squared, values_at}
 pub use Rattle.evaluate.specs.declared.Values.{Values}
 unfoldable pub use Rattle.row.specs.Row.{put_row, row_of}
 unfoldable pub use Rattle.local.specs.Solve.{solve_location, outcome_of, solve_local}

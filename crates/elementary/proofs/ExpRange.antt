@@ -12,7 +12,7 @@ use Rattle.elementary.specs.Exp.{exp_steps, exp_near, expv}
 use Rattle.elementary.specs.Ln.{three_halves}
 use Rattle.elementary.proofs.StepsRange.{R35-nat, s_in, s_neg}
 use Rattle.exponent_table.proofs.Tests.{All}
-use Rattle.exponent_table.proofs.Table.{R35, uncut, vl, vh, kHI, kLO, tests}
+use Rattle.exponent_table.proofs.Table.{R35, uncut, vl, vh, k_hi, k_lo, tests}
 use Rattle.exponent_table.proofs.Sweep.{table}
 
 INV-nat : T (natural INV)
@@ -48,7 +48,7 @@ K-is : (v : Float) → exp_k v ≡ to_unsigned 64 (uncut v)
 unfolding exp_k uncut
 K-is v = refl
 
-pub r_is : (v : Float) (k : ℕ) → exp_rest v k ≡ add binary64 (add binary64 v (kHI k)) (kLO k)
+pub r_is : (v : Float) (k : ℕ) → exp_rest v k ≡ add binary64 (add binary64 v (k_hi k)) (k_lo k)
 unfolding exp_rest
 r_is v k = refl
 
@@ -155,19 +155,19 @@ module _ (v : Float) (low : T (le floor708 v)) (high : T (le v nought)) where
       clash : (a b c x y : ℕ) → a ≡ x → b ≡ y → a ≡ c → x ≤ y → b < c → ⊥
       clash a b c x y p q r h l = omega arith
 
-  sum_fin : (k : ℕ) → exp_k v ≡ k → T (finite (add binary64 v (kHI k)))
+  sum_fin : (k : ℕ) → exp_k v ≡ k → T (finite (add binary64 v (k_hi k)))
   sum_fin k e =
       let t4 = (tab k e).1.1.1.1 in
-      in_fin (add binary64 (vl k) (kHI k)) (add binary64 v (kHI k)) (add binary64 (vh k) (kHI k)) t4.1.1.1.1.0 t4.1.1.1.1.1.0
-      (add_mono binary64 (vl k) v (kHI k) (kHI k) t4.0 (fin_v v low high) t4.1.1.0 t4.1.1.0 (from_below k e) (le_self (kHI k) t4.1.1.0))
-      (add_mono binary64 v (vh k) (kHI k) (kHI k) (fin_v v low high) t4.1.0 t4.1.1.0 t4.1.1.0 (from_above k e) (le_self (kHI k) t4.1.1.0))
+      in_fin (add binary64 (vl k) (k_hi k)) (add binary64 v (k_hi k)) (add binary64 (vh k) (k_hi k)) t4.1.1.1.1.0 t4.1.1.1.1.1.0
+      (add_mono binary64 (vl k) v (k_hi k) (k_hi k) t4.0 (fin_v v low high) t4.1.1.0 t4.1.1.0 (from_below k e) (le_self (k_hi k) t4.1.1.0))
+      (add_mono binary64 v (vh k) (k_hi k) (k_hi k) (fin_v v low high) t4.1.0 t4.1.1.0 t4.1.1.0 (from_above k e) (le_self (k_hi k) t4.1.1.0))
 
   r_low : (k : ℕ) → exp_k v ≡ k → T (le (neg R35) (exp_rest v k))
   r_low k e =
       let t = tab k e in
       let t4 = t.1.1.1.1 in
-      let A = kHI k in
-      let C = kLO k in
+      let A = k_hi k in
+      let C = k_lo k in
       le_tr (neg R35) (exp_rest (vl k) k) (exp_rest v k) t.1.1.0
       (subst (λ (x : Float). T (le x (exp_rest v k))) (sym (r_is (vl k) k))
       (subst (λ (x : Float). T (le (add binary64 (add binary64 (vl k) A) C) x)) (sym (r_is v k))
@@ -178,8 +178,8 @@ module _ (v : Float) (low : T (le floor708 v)) (high : T (le v nought)) where
   r_up k e =
       let t = tab k e in
       let t4 = t.1.1.1.1 in
-      let A = kHI k in
-      let C = kLO k in
+      let A = k_hi k in
+      let C = k_lo k in
       subst (λ (x : Float). T (le x (exp_rest (vh k) k))) (sym (r_is v k))
       (subst (λ (x : Float). T (le (add binary64 (add binary64 v A) C) x)) (sym (r_is (vh k) k))
       (add_mono binary64 (add binary64 v A) (add binary64 (vh k) A) C C (sum_fin k e) t4.1.1.1.1.1.0 t4.1.1.1.0 t4.1.1.1.0

@@ -6,9 +6,9 @@ use lib.Ieee.{Float}
 use Rattle.setup.specs.declared.Setup.{Setup}
 use Rattle.setup.specs.Data.{data_of, trusted_data}
 use Rattle.real.specs.Matrix.{Row, Matrix}
-use Rattle.evaluate.specs.Evaluate.{squares_step, sum_squares, localRSquared, values_at}
+use Rattle.evaluate.specs.Evaluate.{squares_step, sum_squares, local_r_squared, values_at}
 
 pub values_blind : (u : Setup) (coords x y trust : List Float) (w : Row) (i : ℕ) (a : Matrix) (beta : Row) (sum : Float)
     → values_at u (trusted_data coords x y trust) w i a beta sum ≡ values_at u (data_of coords x y) w i a beta sum
-unfolding values_at localRSquared sum_squares squares_step
+unfolding values_at local_r_squared sum_squares squares_step
 values_blind u coords x y trust w i a beta sum = refl

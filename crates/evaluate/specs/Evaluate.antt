@@ -55,8 +55,8 @@ explained_share s =
     cond (le s.total eps64) one64 (clamp_unit (sub binary64 one64 (div binary64 s.residual s.total)))
 
 -- `local_r_squared`, with `mean_y = weighted_y / weight_sum`
-unfoldable pub localRSquared : Setup → Data → Row → Row → Float → Float
-localRSquared u d w beta sum =
+unfoldable pub local_r_squared : Setup → Data → Row → Row → Float → Float
+local_r_squared u d w beta sum =
     explained_share (sum_squares u d w beta (div binary64 (inner_product w d.responses u.n) sum))
 
 -- `predicted`, `residual`, `local_r2` and `leverage` of location i, by its own design row and weight
@@ -67,6 +67,6 @@ values_at u d w i a beta sum =
     record {
       predicted = predicted;
       residual = sub binary64 (get_or d.responses i nan) predicted;
-      local_r2 = localRSquared u d w beta sum;
+      local_r2 = local_r_squared u d w beta sum;
       leverage = hat_diagonal a row (get_or w i nan) (u.p + 1);
     }

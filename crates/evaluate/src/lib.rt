@@ -5,7 +5,7 @@ ghost use Rattle.std.specs.Prelude.{◌≡◌, ◌+◌, ◌*◌, ◌≤◌, ◌<
 ghost use Rattle.setup.specs.Data.{data_of};
 ghost use Rattle.setup.specs.Shape.{Shaped};
 ghost use Rattle.normal.specs.Design.{design_row};
-ghost use Rattle.evaluate.specs.Evaluate.{inner_product, hat_diagonal, add_squares, sum_squares, explained_share, localRSquared, values_at};
+ghost use Rattle.evaluate.specs.Evaluate.{inner_product, hat_diagonal, add_squares, sum_squares, explained_share, local_r_squared, values_at};
 
 use setup::Setup;
 
@@ -122,7 +122,7 @@ fn local_r_squared(
     sum: f64,
 ) -> f64
     requires { Shaped u (data_of coords.now x.now y.now) }
-    ensures { result ≡ localRSquared u (data_of coords.now x.now y.now) w.now beta sum }
+    ensures { result ≡ local_r_squared u (data_of coords.now x.now y.now) w.now beta sum }
 {
     let mean = inner_product(w, y, u.n) / sum;
     explained_share(sum_squares(coords, x, y, u, w, beta, mean))

@@ -21,13 +21,13 @@ counts_by before k [] = []
 counts_by before k (last ∷ row) = replicate (last - before) k ++ counts_by last (suc k) row
 
 -- f of m numbers from a on
-abbrev pub inARow : {A : Type 0} → (ℕ → A) → ℕ → ℕ → List A
-inARow f a zero = []
-inARow f a (suc m) = f a ∷ inARow f (suc a) m
+abbrev pub in_a_row : {A : Type 0} → (ℕ → A) → ℕ → ℕ → List A
+in_a_row f a zero = []
+in_a_row f a (suc m) = f a ∷ in_a_row f (suc a) m
 
 -- by p, then by n
 abbrev pub default_counts : List (List ℕ)
-default_counts = inARow (λ p. inARow (λ n. resolve_count 0 n p) 1 512) 0 8
+default_counts = in_a_row (λ p. in_a_row (λ n. resolve_count 0 n p) 1 512) 0 8
 
 pub record EveryDefaultCount : Type 0 where
   pub every : default_counts ≡ map (counts_by 0 1) last_of_each

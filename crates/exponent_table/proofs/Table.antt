@@ -28,11 +28,11 @@ abbrev pub vh : ℕ → Float
 vh zero = nought
 vh (suc k) = round binary64 true ((2 * k + 1) * 693147181 - 5000000) 2000000000
 
-abbrev pub kHI : ℕ → Float
-kHI k = mul binary64 (of_int binary64 (pos k)) HI
+abbrev pub k_hi : ℕ → Float
+k_hi k = mul binary64 (of_int binary64 (pos k)) HI
 
-abbrev pub kLO : ℕ → Float
-kLO k = mul binary64 (of_int binary64 (pos k)) LO
+abbrev pub k_lo : ℕ → Float
+k_lo k = mul binary64 (of_int binary64 (pos k)) LO
 
 abbrev pub above : ℕ → Bool
 above zero = true
@@ -41,6 +41,6 @@ above (suc k) = ltb (exp_k (vh (suc k))) (suc k) && le (two_to_minus (suc k)) ha
 abbrev pub tests : ℕ → List Bool
 tests k =
     ltb k (exp_k (vl k)) ∷ above k ∷ le (neg R35) (exp_rest (vl k) k) ∷ le (exp_rest (vh k) k) R35
-    ∷ finite (vl k) ∷ finite (vh k) ∷ finite (kHI k) ∷ finite (kLO k) ∷ finite (add binary64 (vl k) (kHI k)) ∷ finite (add binary64 (vh k) (kHI k))
+    ∷ finite (vl k) ∷ finite (vh k) ∷ finite (k_hi k) ∷ finite (k_lo k) ∷ finite (add binary64 (vl k) (k_hi k)) ∷ finite (add binary64 (vh k) (k_hi k))
     ∷ finite (mul binary64 (vl k) INV) ∷ finite (mul binary64 (vh k) INV) ∷ natural (uncut (vl k)) ∷ natural (uncut (vh k))
     ∷ natural (two_to_minus k) ∷ le (two_to_minus k) one ∷ []
