@@ -1,8 +1,9 @@
 #!/usr/bin/env bash
 # What the proofs assume, by the reports of `rt check` on each program and static library, which speak of every crate below, and on each
-# crate that stands below none of them, which speak of that crate: nothing, but that the four programs, which do I/O, assume the contracts of the C functions that the standard library calls for it: write, in
-# two of them read, and for the text of an error errno and strerror_r. And no crate uses a library that is not this repository's, the
-# standard library apart. That no crate declares a C function of its own is asked by `rt ci`.
+# crate that stands below none of them, which speak of that crate: nothing, but that the four programs, which do I/O, assume the
+# contracts of the C functions that the standard library calls for it: write, in two of them read, and for the text of an error errno
+# and strerror_r. And no crate uses a library that is not this repository's, the standard library apart. That no crate declares a C
+# function of its own is asked by `rt ci`.
 set -u
 cd "$(dirname "$0")/.." || exit 2
 
