@@ -77,8 +77,8 @@ fn bandwidth_of(k: u64, seed: u64) -> GwrBandwidth {
 // their own, so that the case is otherwise the same whatever its sort.
 pub fn make_case(seed: u64, k: u64, criterion: GwrCriterion, sort: u64) -> Case
     requires { seed < 2 ^ 31 }
-    ensures n_bound { (result.n ≤ 10) × (result.p ≤ 2) × (result.seed < 2 ^ 31) }
-    ensures coords_len { (length result.coords ≡ 24) × (length result.x ≡ 36) × (length result.y ≡ 12) × (length result.trust ≡ 12) }
+    ensures sizes { (result.n ≤ 10) × (result.p ≤ 2) × (result.seed < 2 ^ 31) }
+    ensures lengths { (length result.coords ≡ 24) × (length result.x ≡ 36) × (length result.y ≡ 12) × (length result.trust ≡ 12) }
 {
     let mut coords = [0.0; 24];
     let mut x = [0.0; 36];

@@ -32,8 +32,8 @@ struct Ending {
 
 // The uninterrupted fit of a case, and four lists of turns that are to end as it does; some turns are lent bad trusts where `spoils`.
 pub fn play_case(c: Case, spoils: bool, t: Tally) -> Tally
-    requires n_bound { (c.n ≤ 10) × (c.p ≤ 2) × (c.seed < 2 ^ 31) }
-    requires coords_len { (length c.coords ≡ 24) × (length c.x ≡ 36) × (length c.y ≡ 12) × (length c.trust ≡ 12) }
+    requires sizes { (c.n ≤ 10) × (c.p ≤ 2) × (c.seed < 2 ^ 31) }
+    requires lengths { (length c.coords ≡ 24) × (length c.x ≡ 36) × (length c.y ≡ 12) × (length c.trust ≡ 12) }
 {
     let n = c.n;
     let p = c.p;
