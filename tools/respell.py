@@ -5,7 +5,8 @@ It is run once, at the top, on what port.py wrote. A name that the .antt files d
 a dash beside a capital stays, since there it joins a type to a name (K-le). Two names that would fall together: the lemma's gets _lem. Names
 that a file takes from a library stay as they are in it, and so do those that only a Proof.antt declares, the labels of its goals. In sources
 the clauses and imports are turned, in must-fail edits the same of each line, in comments what stands in backticks. names.tsv beside this
-script is written anew: each old name with the new one, for pages that name them.
+script is written anew: each old name with the new one, for pages that name them. As it stands there it also has the names that port.py turned
+before, and the few that were mended behind it (docs/PORT.md).
 """
 
 import collections
