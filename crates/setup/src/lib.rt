@@ -7,6 +7,10 @@ ghost use Rattle.setup.specs.Options.{unguarded, default_options, judged_by};
 
 use kernel::GwrKernel;
 
+mod problem;
+
+pub use problem::{Columns, Problem};
+
 // 000's bandwidth: a distance, or a number of neighbours.
 #[derive(Clone, Copy)]
 pub enum GwrBandwidth {

@@ -16,11 +16,11 @@ over_zeros : (u : Setup) (coords x y trust : List Float) (east north b : Float) 
 unfolding weights_from weight_from
 over_zeros u coords x y trust east north b w r zeros e = e ∙ rw zeros
 
-pub weigh_within-requires : goal.weigh_within-requires
-weigh_within-requires c = search (rules, reaches)
+pub weigh_within-requires-clause-reach : goal.weigh_within-requires-clause-reach
+weigh_within-requires-clause-reach c = search (rules, reaches)
 
 pub returns-then-reach : goal.returns-then-reach
-returns-then-reach c = search (rules, over_zeros)
+returns-then-reach c = rw (← c.problem.view_is, ← c.columns.view_is) (search (rules, over_zeros))
 
 pub returns-else-reach : goal.returns-else-reach
-returns-else-reach c = search (rules, over_zeros)
+returns-else-reach c = rw (← c.problem.view_is, ← c.columns.view_is) (search (rules, over_zeros))

@@ -1,0 +1,58 @@
+// What is lent for a job: the columns of its data, and these beside options and sizes once their lengths are known to fit.
+ghost use Rattle.std.specs.Prelude.{◌≡◌};
+ghost use Rattle.setup.specs.Shape.{Shaped};
+
+use std::marker::Model;
+
+use super::Setup;
+
+// The columns of the data, as they are lent: whatever their lengths.
+#[derive(Drop)]
+pub struct Columns<'a> {
+    pub coords: &'a [f64],
+    pub predictors: &'a [f64],
+    pub responses: &'a [f64],
+    pub trusts: &'a [f64],
+}
+
+impl<'a> Model for Columns<'a> {
+    ghost use Rattle.setup.specs.Data.{Data, trusted_data};
+
+    ghost Value = { Data };
+
+    ghost view = { λ o. trusted_data o.coords.now o.predictors.now o.responses.now o.trusts.now };
+}
+
+// A job's options and sizes beside its data, whose lengths fit: what every solve works on.
+#[derive(Drop)]
+pub struct Problem<'a> {
+    pub setup: Setup,
+    pub columns: Columns<'a>,
+}
+
+impl<'a> Model for Problem<'a> {
+    ghost use Rattle.setup.specs.Problem.{Posed};
+    ghost use Rattle.setup.specs.Shape.{Shaped};
+
+    ghost Value = { Posed };
+
+    ghost view = { λ p. record { setup = p.setup; columns = p.columns } };
+
+    ghost invariant = { λ p. Shaped p.setup p.columns };
+}
+
+impl<'a> Problem<'a> {
+    // The problem of a setup, of which the data have the lengths.
+    pub fn pose(setup: Setup, lent: &Columns<'a>) -> Self
+        requires { Shaped setup lent.now }
+        ensures { result ≡ record { setup = setup; columns = lent.now } }
+    {
+        let columns = Columns {
+            coords: lent.coords,
+            predictors: lent.predictors,
+            responses: lent.responses,
+            trusts: lent.trusts,
+        };
+        Problem { setup, columns }
+    }
+}
