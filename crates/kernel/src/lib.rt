@@ -7,11 +7,12 @@ ghost use Rattle.real.specs.Reals.{zero64, one64};
 ghost use Rattle.real.specs.Arithmetic.{rounded};
 ghost use Rattle.elementary.specs.Exp.{expv};
 ghost use Rattle.kernel.specs.Published.{gaussian_formula, bisquare_formula};
-ghost use Rattle.kernel.specs.Weight.{squares_of, distance_of, weight_of, weighed};
+ghost use Rattle.kernel.specs.Weight.{weight_of, weighed};
 
+mod place;
 mod reaching;
 
-pub use reaching::{guess_distance, settle_distance};
+pub use place::Place;
 
 // 000's three spatial kernels.
 #[derive(Clone, Copy)]
@@ -66,22 +67,6 @@ fn bisquare(d: f64, b: f64) -> f64
     } else {
         0.0
     }
-}
-
-// The sum of the squares of the distance between two places, easting and northing of each.
-pub fn squares(ax: f64, ay: f64, bx: f64, by: f64) -> f64
-    ensures { result ≡ squares_of ax ay bx by }
-{
-    let dx = ax - bx;
-    let dy = ay - by;
-    dx * dx + dy * dy
-}
-
-// The distance between two places.
-pub fn distance(ax: f64, ay: f64, bx: f64, by: f64) -> f64
-    ensures { result ≡ distance_of ax ay bx by }
-{
-    root::sqrt(squares(ax, ay, bx, by))
 }
 
 // What the public weight call answers.

@@ -5,24 +5,25 @@ ghost use Rattle.std.specs.Prelude.{◌≡◌, replicate};
 ghost use Rattle.real.specs.Reals.{zero64};
 ghost use Rattle.weights.specs.Weights.{weights_from};
 
+use kernel::Place;
 use setup::Problem;
 
 mod near;
 
-// The weight of each observation, its trust included, in order, into w, which is handed over as zeros; answers their sum.
-pub fn weigh(problem: &Problem<'_>, east: f64, north: f64, b: f64, w: &mut [f64; 512]) -> f64
+// The weight of each observation seen from the place, its trust included, in order, into w, which is handed over as zeros; answers
+// their sum.
+pub fn weigh(problem: &Problem<'_>, place: Place, b: f64, w: &mut [f64; 512]) -> f64
     requires zeros { w.old ≡ replicate 512 zero64 }
-    ensures { (w.new, result) ≡ weights_from problem.now.setup problem.now.columns east north b }
+    ensures { (w.new, result) ≡ weights_from problem.now.setup problem.now.columns place.east place.north b }
 {
     let columns = &problem.columns;
     let coords = columns.coords;
     let trusts = columns.trusts;
-    let n = problem.setup.n;
     let kernel = problem.setup.options.kernel;
     let reach = kernel.reach(b);
-    if reach == reach {
-        near::weigh_within(coords, trusts, n, kernel, east, north, b, reach, w)
+    if reach.is_nan() {
+        near::weigh_all(coords, trusts, kernel, place, b, w)
     } else {
-        near::weigh_all(coords, trusts, n, kernel, east, north, b, w)
+        near::weigh_within(coords, trusts, kernel, place, b, reach, w)
     }
 }

@@ -19,8 +19,8 @@ over_zeros u coords x y trust east north b w r zeros e = e ∙ rw zeros
 pub weigh_within-requires-clause-reach : goal.weigh_within-requires-clause-reach
 weigh_within-requires-clause-reach c = search (rules, reaches)
 
-pub returns-then-reach : goal.returns-then-reach
-returns-then-reach c = rw (← c.problem.view_is, ← c.columns.view_is) (search (rules, over_zeros))
+pub returns-then-is_nan : goal.returns-then-is_nan
+returns-then-is_nan c = rw (← c.problem.view_is, ← c.columns.view_is) (search (rules, over_zeros))
 
-pub returns-else-reach : goal.returns-else-reach
-returns-else-reach c = rw (← c.problem.view_is, ← c.columns.view_is) (search (rules, over_zeros))
+pub returns-else-is_nan : goal.returns-else-is_nan
+returns-else-is_nan c = rw (← c.problem.view_is, ← c.columns.view_is) (search (rules, over_zeros))
