@@ -1,6 +1,6 @@
 -- Rows of a matrix that stay as they are.
 use Prim.Native.Nat.{ℕ, ◌+◌, ◌<◌}
-use mathlib.Core.Path.{◌≡◌, refl, sym, subst, ap, ◌∙◌}
+use mathlib.Core.Path.{◌≡◌, refl, sym, ap, ◌∙◌}
 use mathlib.Core.Bool.{Bool, true, false, cond}
 use mathlib.Core.List.{[]}
 use lib.ListN.{get_or, set}
@@ -9,11 +9,7 @@ use lib.Dec.{eqb}
 use borrow.Author.Tests.{eqb-false}
 use Rattle.real.proofs.Fold.{Range, more}
 use Rattle.real.specs.Matrix.{Matrix, Row}
-use Rattle.gauss.specs.Gauss.{swap_rows, clear_step, clear_row}
-
--- a row exchanged with itself
-pub swap_same : (a : Matrix) (i k : ℕ) → i ≡ k → a ≡ swap_rows a i k
-swap_same a i k h = subst (λ (k : ℕ). a ≡ swap_rows a i k) h (sym (rw (set-get_or a i [], set-get_or a i [])))
+use Rattle.gauss.specs.Gauss.{clear_step, clear_row}
 
 -- row i, where row k is left as it is or is another
 other : (a : Matrix) (i k : ℕ) (x : Row) (t : Bool) → eqb k i ≡ t → get_or (set a k (cond t (get_or a k []) x)) i [] ≡ get_or a i []
