@@ -30,5 +30,7 @@ module _ (n m : ℕ) where
   pub stopped : {a r : Matrix} {i : ℕ} → Range (try_step n m) (Some a) 0 n i (Some r) → i < n → lt (pivot_of r i n).val least_pivot ≡ true → None ≡ eliminated a n m
   unfolding eliminated try_step gauss_step
   stopped {a} {r} {i} turned h t =
+      let low : 0 ≤ i + 1 = omega arith in
+      let high : i + 1 ≤ n = omega arith in
       let here : None ≡ range (try_step n m) 0 (i + 1) (Some a) = (more turned h (sym (rw t))).is in
-      sym (ended (i + 1) (omega arith)) ∙ ap (range (try_step n m) (i + 1) n) here ∙ split (try_step n m) (Some a) 0 (i + 1) n (omega arith) (omega arith)
+      sym (ended (i + 1) high) ∙ ap (range (try_step n m) (i + 1) n) here ∙ split (try_step n m) (Some a) 0 (i + 1) n low high

@@ -17,7 +17,11 @@ fn better(a: &[[f64; 16]; 8], i: usize, k: usize, p: Pivot) -> Pivot
     ensures { result ≡ pivot_step a.now i k p }
 {
     let v = real::abs(a[k][i]);
-    if v > p.val { Pivot { row: k, val: v } } else { p }
+    if v > p.val {
+        Pivot { row: k, val: v }
+    } else {
+        p
+    }
 }
 
 // The row from i to n - 1 whose cell in column i has the largest magnitude, the first on a tie.
@@ -29,6 +33,7 @@ fn find_pivot(a: &[[f64; 16]; 8], i: usize, n: usize) -> Pivot
         row: i,
         val: real::abs(a[i][i]),
     };
+    // An index, since `better` takes it.
     for k in i + 1..n {
         p = better(a, i, k, p);
     }
@@ -40,8 +45,8 @@ fn div_row(row: &mut [f64; 16], v: f64, m: usize)
     requires { m ≤ 16 }
     ensures { row.new ≡ div_row v m row.old }
 {
-    for j in 0..m {
-        row[j] = row[j] / v;
+    for x in row[..m].iter_mut() {
+        *x = *x / v;
     }
 }
 
@@ -50,6 +55,7 @@ fn less_row(row: &mut [f64; 16], v: f64, by: &[f64; 16], m: usize)
     requires { m ≤ 16 }
     ensures { row.new ≡ less_row v by.now m row.old }
 {
+    // An index: of cells that a zip changes a proof knows nothing afterwards.
     for j in 0..m {
         row[j] = row[j] - v * by[j];
     }
@@ -76,6 +82,7 @@ fn clear(a: &mut [[f64; 16]; 8], i: usize, n: usize, m: usize)
     ensures { a.new ≡ cleared i n m a.old }
 {
     let by = a[i];
+    // An index, since `clear_row` takes it.
     for k in 0..n {
         clear_row(&mut a[k], &by, k, i, m);
     }
