@@ -8,22 +8,11 @@ use lib.ListN.{length, take, get_or, set, get_or-eq_default}
 use lib.Seq.{length-take-le, get_or-take}
 use lib.Ieee.{Float, nan}
 use Rattle.real.specs.Reals.{zero64, from_count}
-use Rattle.neighbours.specs.declared.Own.{Own}
-use Rattle.neighbours.specs.declared.Own.TheVariants.{At, Nobody}
+use Rattle.std.specs.Prelude.{Option}
 use Rattle.neighbours.specs.Walk.{Walk, unmet, walk_on, found_by, squares_from, walk_in, Holds}
 use Rattle.neighbours.proofs.Walks.{walk_few, held_is}
 use Rattle.neighbours.proofs.Smallest.{get_or_any}
 use Rattle.measured.specs.Walks.{own_by, end_of, walks_of, asked_of}
-
--- ---- the own pantry
-module _ (i n : ℕ) where
-  pub own_some : i < n → At i ≡ own_by i n
-  unfolding own_by
-  own_some h = sym (rw (lt-ltb i n h))
-
-  pub own_none : n ≤ i → Nobody ≡ own_by i n
-  unfolding own_by
-  own_none h = sym (rw (le-ltb i n h))
 
 -- ---- a sum by its place
 module _ (l : List Float) (met at : ℕ) (few : met ≤ 512) (long : length l ≡ 512) where
@@ -40,7 +29,7 @@ unfolding end_of
 end_seen l seen met k at g few long e f h = let n : length (take met l) ≡ met = length-take-le met l (omega arith) in rw (e, f, h, n)
 
 -- ---- the two walks
-module _ (own : Own) (s : ℕ → Float) {l exit : List Float} {i met : ℕ} (m : ℕ) (z : Float) {g : Float} (e : i ≡ 0) (h : Holds (walk_on own s 0 m (walk_in l i z)) l exit met g) where
+module _ (own : Option ℕ) (s : ℕ → Float) {l exit : List Float} {i met : ℕ} (m : ℕ) (z : Float) {g : Float} (e : i ≡ 0) (h : Holds (walk_on own s 0 m (walk_in l i z)) l exit met g) where
   first_few : met ≤ m
   first_few = let none : length (take i l) ≡ 0 = ap (λ (a : ℕ). length (take a l)) e in omega (arith, h.count, walk_few own s 0 m (walk_in l i z))
 
@@ -50,7 +39,7 @@ module _ (own : Own) (s : ℕ → Float) {l exit : List Float} {i met : ℕ} (m 
 pub still_long : {w : Walk} {l exit : List Float} {met : ℕ} {g : Float} → Holds w l exit met g → length l ≡ 512 → length exit ≡ 512
 still_long h e = h.long ∙ e
 
-pub walks_seen : (coords : List Float) (n : ℕ) (east north : Float) (own : Own) (m k at : ℕ) (seen : List Float) {l e₁ e₂ last : List Float} {i met₁ met₂ : ℕ} {z g₁ g₂ b : Float}
+pub walks_seen : (coords : List Float) (n : ℕ) (east north : Float) (own : Option ℕ) (m k at : ℕ) (seen : List Float) {l e₁ e₂ last : List Float} {i met₁ met₂ : ℕ} {z g₁ g₂ b : Float}
     → i ≡ 0 → z ≡ zero64 → Holds (walk_on own (squares_from coords east north) 0 m (walk_in l i z)) l e₁ met₁ g₁ → b ≡ found_by k (walk_in e₁ met₁ g₁)
     → Holds (walk_on own (squares_from coords east north) m n (walk_in e₁ met₁ g₁)) e₁ e₂ met₂ g₂ → last ≡ end_of (walk_in e₂ met₂ g₂) k at (set seen 0 b)
     → last ≡ walks_of coords n east north own m k at seen
@@ -63,7 +52,7 @@ walks_seen coords n east north own m k at seen {l} {e₁} {e₂} {last} {i} {met
 
 -- ---- the call
 module _ (coords : List Float) (east north : Float) (i m k at : ℕ) (seen : List Float) where
-  pub asked_served : {own : Own} {last : List Float} → length coords / 2 ≤ 512 → m ≤ length coords / 2 → own ≡ own_by i (length coords / 2)
+  pub asked_served : {own : Option ℕ} {last : List Float} → length coords / 2 ≤ 512 → m ≤ length coords / 2 → own ≡ own_by i (length coords / 2)
       → last ≡ walks_of coords (length coords / 2) east north own m k at seen → (1, last) ≡ asked_of coords east north i m k at seen
   unfolding asked_of
   asked_served h g e is = rw (is, e, le-leb (length coords / 2) 512 h, le-leb m (length coords / 2) g)

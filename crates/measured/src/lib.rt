@@ -17,7 +17,7 @@ ghost use Rattle.measured.specs.Fits.{criterion_by, told_of, seen_of, fit_seen, 
 use criterion::Summary;
 use gwr::FitAnswer;
 use kernel::GwrKernel;
-use neighbours::{Own, Walker};
+use neighbours::Walker;
 use refusal::Refusal;
 use request::Choice;
 use setup::{GwrBandwidth, GwrCriterion, GwrOptions};
@@ -48,16 +48,15 @@ pub extern "C" fn zescolumba_exponentials(values: &mut [f64])
     mapped::exponentials(values);
 }
 
+#[tactic(auto, unfolding(crate::specs::Turns::kernel_by))]
 fn kernel_by(number: u32) -> GwrKernel
     ensures { result ≡ kernel_by number }
 {
-    if number == 0 {
-        return GwrKernel::Gaussian;
+    match number {
+        0 => GwrKernel::Gaussian,
+        1 => GwrKernel::Bisquare,
+        _ => GwrKernel::Exponential,
     }
-    if number == 1 {
-        return GwrKernel::Bisquare;
-    }
-    GwrKernel::Exponential
 }
 
 // The job after so many turns of one allowance.
@@ -75,13 +74,13 @@ fn play(
 {
     let mut k = j;
     for i in 0..turns {
-        let t = job::turn(k, coords, x, y, trust, &mut *out, allowance);
-        k = t.job;
+        k = job::turn(k, coords, x, y, trust, &mut *out, allowance).job;
     }
     k
 }
 
-// Begins an unsearched job at the bandwidth distance 400 and takes it through so many turns; answers the solves that it has made.
+// Begins an unsearched job at the bandwidth distance 400 and takes it through so many turns; answers the solves that it has made,
+// 0 where beginning refuses.
 #[unsafe(no_mangle)]
 pub extern "C" fn zescolumba_turns(
     coords: &[f64],
@@ -97,19 +96,20 @@ pub extern "C" fn zescolumba_turns(
     ensures { (result, out.new) ≡ turns_of (trusted_data coords.now x.now y.now trust.now) p kernel allowance turns out.old }
 {
     let options = GwrOptions::unguarded(kernel_by(kernel), GwrBandwidth::Fixed(400.0), false);
-    let begun = starting::begin(coords, x, y, trust, p, options, &*out);
-    let first = begun.job;
-    let last = play(first, coords, x, y, trust, out, allowance, turns);
-    last.solves
+    match starting::begin(coords, x, y, trust, p, options, &*out) {
+        Ok(first) => {
+            let last = play(first, coords, x, y, trust, out, allowance, turns);
+            last.solves
+        }
+        Err(_) => 0,
+    }
 }
 
-fn own_by(i: usize, n: usize) -> Own
+#[tactic(auto, unfolding(crate::specs::Walks::own_by))]
+fn own_by(i: usize, n: usize) -> Option<usize>
     ensures { result ≡ own_by i n }
 {
-    if i < n {
-        return Own::At(i);
-    }
-    Own::Nobody
+    (i < n).then_some(i)
 }
 
 // The sum in place `at` of a walk, 0 where there is none.
@@ -140,7 +140,7 @@ fn walks(
     n: usize,
     east: f64,
     north: f64,
-    own: Own,
+    own: Option<usize>,
     m: usize,
     k: usize,
     at: usize,
@@ -190,13 +190,14 @@ pub extern "C" fn zescolumba_walk(
     0
 }
 
+#[tactic(auto, unfolding(crate::specs::Fits::criterion_by))]
 fn criterion_by(number: u32) -> GwrCriterion
     ensures { result ≡ criterion_by number }
 {
-    if number == 0 {
-        return GwrCriterion::Unguarded;
+    match number {
+        0 => GwrCriterion::Unguarded,
+        _ => GwrCriterion::Guarded,
     }
-    GwrCriterion::Guarded
 }
 
 // The number, beside what a summary reports and how many rows were written.

@@ -19,7 +19,7 @@ use Rattle.real.proofs.SignedOrder.{le_tr, apart, nlt→le, number_left}
 use Rattle.selection.specs.Kth.{tally_step, tally}
 use Rattle.selection.proofs.Tallies.{tally_turns}
 use Rattle.neighbours.specs.Insert.{rank_of, insert}
-use Rattle.neighbours.specs.declared.Own.{Own}
+use Rattle.std.specs.Prelude.{Option}
 use Rattle.neighbours.specs.Walk.{Walk, unmet, meet, is_own, pass, walk_on}
 use Rattle.neighbours.specs.Smallest.{insert_step, all_distances, Ascending}
 use Rattle.neighbours.proofs.Inserts.{ins_is}
@@ -57,7 +57,7 @@ module _ (p : Float → Bool) where
       go false a b s e = e
 
   -- all distances, by their pantries
-  module _ (own : Own) (d : ℕ → Float) where
+  module _ (own : Option ℕ) (d : ℕ → Float) where
     amount_joined : (j : ℕ) (l : List Float) (c : ℕ) → amount p l ≡ c → amount p (insert_step own d j l) ≡ tally_step (λ q. not (is_own own q) && p (d q)) j c
     unfolding insert_step tally_step
     amount_joined j l c e = go (is_own own j)

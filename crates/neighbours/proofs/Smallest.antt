@@ -26,7 +26,7 @@ use Rattle.selection.specs.Kth.{at_most, fewer, is_kth, kth_smallest}
 use Rattle.selection.proofs.Tallies.{tally_mono}
 use Rattle.selection.proofs.Kths.{kth_enough, kth_below, Found, one, none, kth_found, kth_none}
 use Rattle.neighbours.specs.Insert.{insert}
-use Rattle.neighbours.specs.declared.Own.{Own}
+use Rattle.std.specs.Prelude.{Option}
 use Rattle.neighbours.specs.Walk.{Walk, unmet, is_own, walk_on, width_of, found_by, squares_from, distance_from, nearest_from}
 use Rattle.neighbours.specs.Smallest.{insert_step, all_distances, front_step, met_distances, Ascending, kth_of, greatest_met, kth_nearest}
 use Rattle.neighbours.proofs.Inserts.{Number, inserted_up, inserted_perm}
@@ -34,7 +34,7 @@ use Rattle.neighbours.proofs.Amounts.{amount, amount_all, amount_met, amount_tal
 use Rattle.neighbours.proofs.Greatest.{from_zero, held, above, Topped, walk_topped, greatest_root, zero_root}
 
 -- ---- all in order are those met, rearranged
-module _ (own : Own) (d : ℕ → Float) where
+module _ (own : Option ℕ) (d : ℕ → Float) where
   one_met : (j : ℕ) (l s : List Float) → Permᴰ l s → Permᴰ (insert_step own d j l) (front_step own d j s)
   unfolding insert_step front_step
   one_met j l s r = go (is_own own j)
@@ -48,7 +48,7 @@ module _ (own : Own) (d : ℕ → Float) where
   all_met m = related (insert_step own d) (front_step own d) 0 m (λ l s. Permᴰ l s) (λ j l s h r. one_met j l s r) [] [] (omega arith) Permᴰ.nil
 
 -- ---- and where they are numbers, they are in ascending order
-module _ (own : Own) (d : ℕ → Float) (m : ℕ) (numbers : (j : ℕ) → j < m → Number (d j)) where
+module _ (own : Option ℕ) (d : ℕ → Float) (m : ℕ) (numbers : (j : ℕ) → j < m → Number (d j)) where
   one_up : (j : ℕ) (l : List Float) → j < m → Ascending l → Ascending (insert_step own d j l)
   unfolding insert_step
   one_up j l h up = go (is_own own j)
@@ -91,7 +91,7 @@ module _ (l : List Float) (k : ℕ) (v : Float) where
     few_below = omega (arith, fewer_is, kth_below l (length l) k v is)
 
 -- ---- finite coordinates
-module _ (coords : List Float) (east north : Float) (own : Own) (n : ℕ) (e : T (finite east)) (f : T (finite north)) (ok : (c : ℕ) → c < 2 * n → T (finite (get_or coords c nan))) where
+module _ (coords : List Float) (east north : Float) (own : Option ℕ) (n : ℕ) (e : T (finite east)) (f : T (finite north)) (ok : (c : ℕ) → c < 2 * n → T (finite (get_or coords c nan))) where
   abbrev s : ℕ → Float
   s = squares_from coords east north
 

@@ -18,17 +18,17 @@ use Rattle.root.proofs.Order.{root_level}
 use Rattle.kernel.proofs.Reaches.{above_nonneg}
 use Rattle.selection.specs.Kth.{is_kth, kth_smallest}
 use Rattle.selection.proofs.Kths.{Level, level_lt, kth_is, kth_taken}
-use Rattle.neighbours.specs.declared.Own.{Own}
-use Rattle.neighbours.specs.declared.Own.TheVariants.{At, Nobody}
+use Rattle.std.specs.Prelude.{Option, Some, None, nat_eq}
+use Rattle.std.specs.Option.{option_eq}
 use Rattle.neighbours.specs.Walk.{Walk, unmet, meet, is_own, pass, walk_on, width_of, found_by, squares_from, nearest_from, walk_in, Holds}
 
 -- ---- a walk stopped and taken up again from there ends as an unbroken one does
-pub taken_up : (own : Own) (s : ℕ → Float) (a b c : ℕ) (w : Walk) → a ≤ b → b ≤ c → walk_on own s b c (walk_on own s a b w) ≡ walk_on own s a c w
+pub taken_up : (own : Option ℕ) (s : ℕ → Float) (a b c : ℕ) (w : Walk) → a ≤ b → b ≤ c → walk_on own s b c (walk_on own s a b w) ≡ walk_on own s a c w
 unfolding walk_on
 taken_up own s a b c w h g = split (pass own s) w a b c h g
 
 -- ---- stopped after m pantries it gives the bandwidth among those alone, whatever is behind them
-module _ (coords : List Float) (east north : Float) (own : Own) (k : ℕ) where
+module _ (coords : List Float) (east north : Float) (own : Option ℕ) (k : ℕ) where
   abbrev s : ℕ → Float
   s = squares_from coords east north
 
@@ -49,18 +49,14 @@ module _ (coords : List Float) (east north : Float) (own : Own) (k : ℕ) where
   unfolding nearest_from
   resumed m n h = ap (found_by k) (taken_up own s 0 m n unmet (omega arith) h)
 
--- ---- the own pantry, by whether there is one
-module _ {own : Own} where
-  pub own_at : {i : ℕ} → own ≡ At i → (j : ℕ) → eqb i j ≡ is_own own j
-  unfolding is_own
-  own_at t j = sym (rw t)
-
-  pub own_nobody : own ≡ Nobody → (j : ℕ) → false ≡ is_own own j
-  unfolding is_own
-  own_nobody t j = sym (rw t)
+-- ---- the own pantry, as the code compares it
+pub own_is : (own : Option ℕ) (j : ℕ) → option_eq nat_eq own (Some j) ≡ is_own own j
+unfolding is_own
+own_is None j = refl
+own_is (Some i) j = refl
 
 -- ---- one pantry met
-module _ (own : Own) (s : ℕ → Float) (j : ℕ) (l : List Float) (met : ℕ) (g : Float) where
+module _ (own : Option ℕ) (s : ℕ → Float) (j : ℕ) (l : List Float) (met : ℕ) (g : Float) where
   -- its own
   pub stays : {b : Bool} → b ≡ is_own own j → b ≡ true → met < 512 → length l ≡ 512 → Holds (pass own s j (walk_in l met g)) l l met g
   unfolding pass
@@ -79,7 +75,7 @@ module _ (own : Own) (s : ℕ → Float) (j : ℕ) (l : List Float) (met : ℕ) 
         long = length-set l met x;
       }
 
-pass_few : (own : Own) (s : ℕ → Float) (j : ℕ) (w : Walk) → (length w.sums ≤ length (pass own s j w).sums) × (length (pass own s j w).sums ≤ length w.sums + 1)
+pass_few : (own : Option ℕ) (s : ℕ → Float) (j : ℕ) (w : Walk) → (length w.sums ≤ length (pass own s j w).sums) × (length (pass own s j w).sums ≤ length w.sums + 1)
 unfolding pass meet
 pass_few own s j w = go (is_own own j)
   where
@@ -88,7 +84,7 @@ pass_few own s j w = go (is_own own j)
     go false = let e = length-append w.sums (s j ∷ []) in (omega arith, omega arith)
 
 -- no more are met than there are
-pub walk_few : (own : Own) (s : ℕ → Float) (a b : ℕ) (w : Walk) → length (walk_on own s a b w).sums ≤ length w.sums + (b - a)
+pub walk_few : (own : Option ℕ) (s : ℕ → Float) (a b : ℕ) (w : Walk) → length (walk_on own s a b w).sums ≤ length w.sums + (b - a)
 unfolding walk_on range
 walk_few own s a b w = go (b - a)
   where
@@ -111,13 +107,13 @@ module _ {w : Walk} {entry exit : List Float} {met : ℕ} {g : Float} (r : Holds
   held_rest = ap (drop met) r.sums ∙ drop_at w.sums (drop met entry) met (sym r.count)
 
 -- ---- the loop: the walk so far over the pantries from a on, of those below n, from what the buffer held at entry
-pub record Walking (own : Own) (s : ℕ → Float) (a n : ℕ) (entry : List Float) (met₀ : ℕ) (g₀ : Float) (cur : List Float) (met : ℕ) (g : Float) (j : ℕ) : Type 0 where
+pub record Walking (own : Option ℕ) (s : ℕ → Float) (a n : ℕ) (entry : List Float) (met₀ : ℕ) (g₀ : Float) (cur : List Float) (met : ℕ) (g : Float) (j : ℕ) : Type 0 where
   pub fold : Range (pass own s) (walk_in entry met₀ g₀) a n j (walk_in cur met g)
   pub rest : drop met cur ≡ drop met entry
   pub few : met ≤ met₀ + (j - a)
   pub long : length cur ≡ length entry
 
-module _ {own : Own} {s : ℕ → Float} {a n : ℕ} {l : List Float} {m : ℕ} {z : Float} where
+module _ {own : Option ℕ} {s : ℕ → Float} {a n : ℕ} {l : List Float} {m : ℕ} {z : Float} where
   pub setting_out : a ≤ n → Walking own s a n l m z l m z a
   setting_out h = record { fold = none h; rest = refl; few = omega arith; long = refl }
 
@@ -188,7 +184,7 @@ module _ (l : List Float) (met k : ℕ) (g s : Float) (few : met ≤ 512) (long 
   found_greatest t e f = f ∙ ap (λ (x : Float). greater x eps64) e ∙ sym (width_none g s t) ∙ sym by_selected
 
 -- ---- a walk over all of them, from nothing
-pub walked : (coords : List Float) (n : ℕ) (east north : Float) (own : Own) (k : ℕ) {l exit : List Float} {m met : ℕ} {z g r : Float} → m ≡ 0 → z ≡ zero64
+pub walked : (coords : List Float) (n : ℕ) (east north : Float) (own : Option ℕ) (k : ℕ) {l exit : List Float} {m met : ℕ} {z g r : Float} → m ≡ 0 → z ≡ zero64
     → Holds (walk_on own (squares_from coords east north) 0 n (walk_in l m z)) l exit met g → r ≡ found_by k (walk_in exit met g) → r ≡ nearest_from coords n east north own k
 unfolding nearest_from
 walked coords n east north own k {l} {exit} {m} {met} {z} e f h is =

@@ -15,15 +15,15 @@ mod walk;
 
 pub use walk::{Walker, begin, found_by, walk_on};
 
-// The pantry that stands at the place itself and is left out, if it is one.
-#[derive(Clone, Copy)]
-pub enum Own {
-    At(usize),
-    Nobody,
-}
-
-// The k-th smallest distance from (east, north) to n pantries, its own left out.
-pub fn nearest_from(coords: &[f64], n: usize, east: f64, north: f64, own: Own, k: usize) -> f64
+// The k-th smallest distance from (east, north) to n pantries; `own` stands at the place itself and is left out, if it is one.
+pub fn nearest_from(
+    coords: &[f64],
+    n: usize,
+    east: f64,
+    north: f64,
+    own: Option<usize>,
+    k: usize,
+) -> f64
     requires { (length coords.now ≡ 2 * n) × (n ≤ 512) }
     ensures { result ≡ nearest_from coords.now n east north own k }
 {
@@ -41,7 +41,7 @@ pub fn local_bandwidth_distance(coords: &[f64], n: usize, i: usize, bandwidth: G
     match bandwidth {
         GwrBandwidth::Fixed(b) => b,
         GwrBandwidth::AdaptiveKnn(k) => {
-            nearest_from(coords, n, coords[2 * i], coords[2 * i + 1], Own::At(i), k)
+            nearest_from(coords, n, coords[2 * i], coords[2 * i + 1], Some(i), k)
         }
     }
 }

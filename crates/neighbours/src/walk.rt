@@ -4,8 +4,6 @@ ghost use Rattle.std.specs.Prelude.{◌≡◌, ◌+◌, ◌-◌, ◌*◌, ◌≤
 ghost use Rattle.real.specs.Reals.{zero64};
 ghost use Rattle.neighbours.specs.Walk.{Holds, is_own, pass, walk_on, found_by, squares_from, walk_in};
 
-use crate::Own;
-
 // How far a walk has come: how many sums stand in its buffer, and the greatest of them.
 #[derive(Clone, Copy)]
 pub struct Walker {
@@ -24,13 +22,10 @@ pub fn begin() -> Walker
 }
 
 // Whether pantry j is the walk's own.
-fn is_own(own: Own, j: usize) -> bool
+fn is_own(own: Option<usize>, j: usize) -> bool
     ensures { result ≡ is_own own j }
 {
-    match own {
-        Own::At(i) => i == j,
-        Own::Nobody => false,
-    }
+    own == Some(j)
 }
 
 // The walk from (east, north) with pantry j met, unless it is its own.
@@ -40,7 +35,7 @@ fn pass(
     j: usize,
     east: f64,
     north: f64,
-    own: Own,
+    own: Option<usize>,
     sums: &mut [f64; 512],
 ) -> Walker
     requires { (2 * j + 1 < length coords.now) × (w.met < 512) × (length sums.old ≡ 512) }
@@ -66,7 +61,7 @@ pub fn walk_on(
     to: usize,
     east: f64,
     north: f64,
-    own: Own,
+    own: Option<usize>,
     sums: &mut [f64; 512],
 ) -> Walker
     requires in_order { (from ≤ to) × (2 * to ≤ length coords.now) × (start.met + (to - from) ≤ 512) }
