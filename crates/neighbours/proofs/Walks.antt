@@ -17,7 +17,7 @@ use Rattle.root.specs.Root.{root}
 use Rattle.root.proofs.Order.{root_level}
 use Rattle.kernel.proofs.Reaches.{above_nonneg}
 use Rattle.selection.specs.Kth.{is_kth, kth_smallest}
-use Rattle.selection.proofs.Kths.{Level, level_lt, kth_is, kth_taken}
+use Rattle.selection.proofs.Kths.{Level, level_lt, kth_is}
 use Rattle.neighbours.specs.declared.Own.{Own}
 use Rattle.neighbours.specs.declared.Own.TheVariants.{At, Nobody}
 use Rattle.neighbours.specs.Walk.{Walk, unmet, meet, is_own, pass, walk_on, width_of, found_by, squares_from, nearest_from, walk_in, Holds}
@@ -172,13 +172,13 @@ width_level g {s} {t} e = go (lt zero64 s) refl
         width_above g s u ∙ root_level s t (above_nonneg s p) (above_nonneg t q) p q e.up e.down ∙ sym (width_above g t v)
     go false u = width_none g s u ∙ sym (width_none g t (sym (level_lt e zero64) ∙ u))
 
-module _ (l : List Float) (met k : ℕ) (g s : Float) (few : met ≤ 512) (long : length l ≡ 512) (is : T (is_kth l met k s) ⊎ (s ≡ kth_smallest l met k g)) where
+module _ (l : List Float) (met k : ℕ) (g s : Float) (is : T (is_kth (take met l) k s) ⊎ (s ≡ kth_smallest (take met l) k g)) where
   by_selected : found_by k (walk_in l met g) ≡ width_of g s
   unfolding found_by
-  by_selected = ap (width_of g) (kth_taken l met k (omega arith) g) ∙ go is
+  by_selected = go is
     where
-      go : T (is_kth l met k s) ⊎ (s ≡ kth_smallest l met k g) → width_of g (kth_smallest l met k g) ≡ width_of g s
-      go (inl t) = sym (width_level g (kth_is l met k g s t))
+      go : T (is_kth (take met l) k s) ⊎ (s ≡ kth_smallest (take met l) k g) → width_of g (kth_smallest (take met l) k g) ≡ width_of g s
+      go (inl t) = sym (width_level g (kth_is (take met l) k g s t))
       go (inr e) = ap (width_of g) (sym e)
 
   pub found_root : {r : Float} → lt zero64 s ≡ true → r ≡ root s → r ≡ found_by k (walk_in l met g)

@@ -86,7 +86,7 @@ pub fn found_by(w: Walker, sums: &[f64; 512], k: usize) -> f64
     requires { (w.met ≤ 512) × (length sums.now ≡ 512) }
     ensures { result ≡ found_by k (walk_in sums.now w.met w.greatest) }
 {
-    let s = selection::select(sums, w.met, k, w.greatest);
+    let s = selection::select(&sums[..w.met], k, w.greatest);
     if s > 0.0 {
         return root::sqrt(s);
     }
