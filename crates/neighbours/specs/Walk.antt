@@ -46,7 +46,7 @@ width_of g s = cond (lt zero64 s) (root s) (greater (root g) eps64)
 -- what the walk gives for a count k when stopped: the bandwidth by the k-th smallest sum, by the greatest where fewer were met
 unfoldable pub found_by : ℕ → Walk → Float
 unfolding width_of kth_smallest
-found_by k w = width_of w.greatest (kth_smallest w.sums (length w.sums) k w.greatest)
+found_by k w = width_of w.greatest (kth_smallest w.sums k w.greatest)
 
 -- the sum of squares from the place (east, north) to pantry j, and its root, the distance
 unfoldable pub squares_from : List Float → Float → Float → ℕ → Float

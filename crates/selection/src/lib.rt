@@ -1,28 +1,30 @@
 // Which of some numbers is the m-th smallest, by counting: how many are at most a number, and how many below it.
 #![tactic(auto)]
 
-ghost use Rattle.std.specs.Prelude.{◌≡◌, ◌^◌, ◌⊎◌, ◌≤◌, ◌<◌, T, length};
-ghost use Rattle.selection.specs.Kth.{at_most, fewer, is_kth, kth_smallest};
+ghost use Rattle.std.specs.Prelude.{◌≡◌, ◌^◌, ◌⊎◌, ◌≤◌, ◌<◌, T, length, count_by};
+ghost use Rattle.std.specs.Float.Ieee.{le, lt};
+ghost use Rattle.selection.specs.Kth.{is_kth, kth_smallest};
 
-// How many of s are at most v.
-#[tactic(auto, unfolding(crate::specs::Kth::at_most))]
+// How many of s are at most v. A sum, since `filter(..).count()` branches at each number, which takes three times as long.
 fn at_most(s: &[f64], v: f64) -> usize
-    ensures { result ≡ at_most s.now v }
+    requires { length s.now < 2 ^ 32 }
+    ensures { result ≡ count_by (λ x. le x v) s.now }
 {
-    s.iter().filter(|x| **x <= v).count()
+    s.iter().map(|x| usize::from(*x <= v)).sum()
 }
 
-// How many of s are below v.
-#[tactic(auto, unfolding(crate::specs::Kth::fewer))]
+// How many of s are below v, likewise.
 fn fewer(s: &[f64], v: f64) -> usize
-    ensures { result ≡ fewer s.now v }
+    requires { length s.now < 2 ^ 32 }
+    ensures { result ≡ count_by (λ x. lt x v) s.now }
 {
-    s.iter().filter(|x| **x < v).count()
+    s.iter().map(|x| usize::from(*x < v)).sum()
 }
 
 // Whether v is the m-th smallest of s.
-#[tactic(auto, unfolding(crate::specs::Kth::is_kth))]
+#[tactic(auto, unfolding(crate::specs::Kth::is_kth, crate::specs::Kth::at_most, crate::specs::Kth::fewer))]
 fn is_kth(s: &[f64], m: usize, v: f64) -> bool
+    requires { length s.now < 2 ^ 32 }
     ensures { result ≡ is_kth s.now m v }
 {
     m <= at_most(s, v) && fewer(s, v) < m
@@ -127,6 +129,7 @@ fn greatest_below(s: &[f64], hi: f64) -> f64 {
 // The m-th smallest of s, each of them judged.
 #[tactic(auto, unfolding(crate::specs::Kth::kth_smallest, crate::specs::Kth::kth_step))]
 fn each(s: &[f64], m: usize, otherwise: f64) -> f64
+    requires { length s.now < 2 ^ 32 }
     ensures { result ≡ kth_smallest s.now m otherwise }
 {
     s.iter()
