@@ -4,4 +4,3 @@ pub mod Tallies
 pub mod Amounts
 pub mod Greatest
 pub mod Smallest
-pub mod Bandwidths

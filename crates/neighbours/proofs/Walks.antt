@@ -1,18 +1,17 @@
--- `pass`, `found_by` and the loop of `walk_on`: the buffer's first numbers and the greatest are the walk so far. A walk taken up again is the walk. Assumes nothing.
+-- `pass` and `found_by`: a buffer's first numbers and the greatest are the walk so far. A walk taken up again is the walk. Assumes nothing.
 use mathlib.Core.Path.{◌≡◌, refl, sym, ap, ◌∙◌, subst}
 use mathlib.Core.Bool.{Bool, true, false, cond}
 use mathlib.Core.Logic.{◌⊎◌, inl, inr}
-use mathlib.Core.List.{List, [], ◌∷◌, ◌++◌}
+use mathlib.Core.List.{List, [], ◌∷◌}
 use Prim.Native.Nat.{ℕ, zero, suc, ◌+◌, ◌-◌, ◌*◌, ◌≤◌, ◌<◌}
-use native.Mathlib.Numerals.{add-one}
 use native.Mathlib.Omega.{arith}
 use lib.Dec.{T, eqb}
-use lib.ListN.{length, take, drop, set, length-append, length-set, take-append-drop}
-use lib.Seq.{length-take-le, take_at, drop_at, drop-drop, set_split, append_snoc, get_or-take}
+use lib.ListN.{length, take, set, length-append}
+use lib.Seq.{get_or-take}
 use lib.Ieee.{Float, nan, lt}
 use Rattle.real.specs.Fold.{turns, range}
 use Rattle.real.specs.Reals.{zero64, greater, eps64}
-use Rattle.real.proofs.Fold.{Range, none, more, done, split, related}
+use Rattle.real.proofs.Fold.{split, related}
 use Rattle.root.specs.Root.{root}
 use Rattle.root.proofs.Order.{root_level}
 use Rattle.kernel.proofs.Reaches.{above_nonneg}
@@ -20,6 +19,7 @@ use Rattle.selection.specs.Kth.{is_kth, kth_smallest}
 use Rattle.selection.proofs.Kths.{Level, level_lt, kth_is}
 use Rattle.std.specs.Prelude.{Option, Some, None, nat_eq}
 use Rattle.std.specs.Option.{option_eq}
+use Rattle.std.proofs.lemmas.List.{take_more_set}
 use Rattle.neighbours.specs.Walk.{Walk, unmet, meet, is_own, pass, walk_on, width_of, found_by, squares_from, nearest_from, walk_in}
 
 -- ---- a walk stopped and taken up again from there ends as an unbroken one does
@@ -56,21 +56,18 @@ own_is None j = refl
 own_is (Some i) j = refl
 
 -- ---- one pantry met, as the code keeps it
-module _ (own : Option ℕ) (s : ℕ → Float) (j : ℕ) (l : List Float) (met : ℕ) (g : Float) where
+module _ (own : Option ℕ) (s : ℕ → Float) (j : ℕ) where
   -- its own
-  pub stays : is_own own j ≡ true → walk_in l met g ≡ pass own s j (walk_in l met g)
+  pub stays : (w : Walk) → is_own own j ≡ true → w ≡ pass own s j w
   unfolding pass
-  stays t = rw t
+  stays w t = rw t
 
   -- another
-  pub goes : {x y : Float} → is_own own j ≡ false → x ≡ s j → y ≡ greater g x → met < length l → walk_in (set l met x) (met + 1) y ≡ pass own s j (walk_in l met g)
+  pub goes : (l : List Float) (met : ℕ) (g : Float) {x y : Float} → is_own own j ≡ false → x ≡ s j → y ≡ greater g x → met < length l → walk_in (set l met x) (met + 1) y ≡ pass own s j (walk_in l met g)
   unfolding pass meet
-  goes {x} {y} t f u h = rw (t, ← f, ← u) (ap (λ (v : List Float). record { sums = v; greatest = y }) (take_more l met x h))
-    where
-      take_more : (l : List Float) (met : ℕ) (x : Float) → met < length l → take (met + 1) (set l met x) ≡ take met l ++ x ∷ []
-      take_more l met x h = ?
+  goes l met g {x} {y} t f u h = rw (t, ← f, ← u) (ap (λ (v : List Float). record { sums = v; greatest = y }) (take_more_set l met x h))
 
-pass_few : (own : Option ℕ) (s : ℕ → Float) (j : ℕ) (w : Walk) → (length w.sums ≤ length (pass own s j w).sums) × (length (pass own s j w).sums ≤ length w.sums + 1)
+pub pass_few : (own : Option ℕ) (s : ℕ → Float) (j : ℕ) (w : Walk) → (length w.sums ≤ length (pass own s j w).sums) × (length (pass own s j w).sums ≤ length w.sums + 1)
 unfolding pass meet
 pass_few own s j w = go (is_own own j)
   where
@@ -107,17 +104,17 @@ width_level g {s} {t} e = go (lt zero64 s) refl
         width_above g s u ∙ root_level s t (above_nonneg s p) (above_nonneg t q) p q e.up e.down ∙ sym (width_above g t v)
     go false u = width_none g s u ∙ sym (width_none g t (sym (level_lt e zero64) ∙ u))
 
-module _ (l : List Float) (met k : ℕ) (g s : Float) (is : T (is_kth (take met l) k s) ⊎ (s ≡ kth_smallest (take met l) k g)) where
-  by_selected : found_by k (walk_in l met g) ≡ width_of g s
+module _ (w : Walk) (k : ℕ) {l : List Float} {g s : Float} (sums : l ≡ w.sums) (last : g ≡ w.greatest) (is : T (is_kth l k s) ⊎ (s ≡ kth_smallest l k g)) where
+  by_selected : found_by k w ≡ width_of g s
   unfolding found_by
-  by_selected = go is
+  by_selected = rw (← sums, ← last) (go is)
     where
-      go : T (is_kth (take met l) k s) ⊎ (s ≡ kth_smallest (take met l) k g) → width_of g (kth_smallest (take met l) k g) ≡ width_of g s
-      go (inl t) = sym (width_level g (kth_is (take met l) k g s t))
+      go : T (is_kth l k s) ⊎ (s ≡ kth_smallest l k g) → width_of g (kth_smallest l k g) ≡ width_of g s
+      go (inl t) = sym (width_level g (kth_is l k g s t))
       go (inr e) = ap (width_of g) (sym e)
 
-  pub found_root : {r : Float} → lt zero64 s ≡ true → r ≡ root s → r ≡ found_by k (walk_in l met g)
+  pub found_root : {r : Float} → lt zero64 s ≡ true → r ≡ root s → r ≡ found_by k w
   found_root t e = e ∙ sym (width_above g s t) ∙ sym by_selected
 
-  pub found_greatest : {q r : Float} → lt zero64 s ≡ false → q ≡ root g → r ≡ greater q eps64 → r ≡ found_by k (walk_in l met g)
+  pub found_greatest : {q r : Float} → lt zero64 s ≡ false → q ≡ root g → r ≡ greater q eps64 → r ≡ found_by k w
   found_greatest t e f = f ∙ ap (λ (x : Float). greater x eps64) e ∙ sym (width_none g s t) ∙ sym by_selected

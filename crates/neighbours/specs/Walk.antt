@@ -1,5 +1,5 @@
 -- A walk over pantries: the sums of squares met, in order, and the greatest of them; what it gives wherever it is stopped. Definitions, and examples.
-use Rattle.std.specs.Prelude.{◌≡◌, Option, Some, None, Bool, false, cond, List, [], ◌∷◌, ◌++◌, ℕ, ◌+◌, ◌*◌, eqb, pos, length, take, drop, get_or, Float}
+use Rattle.std.specs.Prelude.{◌≡◌, Option, Some, None, Bool, false, cond, List, [], ◌∷◌, ◌++◌, ℕ, ◌+◌, ◌*◌, eqb, pos, take, get_or, Float}
 use Rattle.std.proofs.Math.Path.{refl}
 use Rattle.std.specs.Float.{nan, binary64}
 use Rattle.std.specs.Float.Ieee.{lt, of_bits, of_int}
@@ -69,18 +69,11 @@ between coords i = distance_from coords (get_or coords (2 * i) nan) (get_or coor
 abbrev pub nearest_of : List Float → ℕ → ℕ → ℕ → Float
 nearest_of coords n i k = nearest_from coords n (get_or coords (2 * i) nan) (get_or coords (2 * i + 1) nan) (Some i) k
 
--- ---- a walk whose sums stand at the front of a lent buffer
+-- ---- a walk whose sums stand at the front of a buffer
 
 -- the walk that a buffer's first numbers and a greatest are
 abbrev pub walk_in : List Float → ℕ → Float → Walk
 walk_in buffer met g = record { sums = take met buffer; greatest = g }
-
--- the buffer holds the walk w in its first numbers and what it held before in the others; so many were met, and the greatest is g
-pub record Holds (w : Walk) (entry exit : List Float) (met : ℕ) (g : Float) : Type 0 where
-  pub sums : exit ≡ w.sums ++ drop met entry
-  pub count : met ≡ length w.sums
-  pub greatest : g ≡ w.greatest
-  pub long : length exit ≡ length entry
 
 -- ---- examples
 

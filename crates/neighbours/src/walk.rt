@@ -1,10 +1,9 @@
 // The walk over the pantries, each met once. It can be stopped and asked anywhere, and taken up again from there.
-ghost use Rattle.std.specs.Prelude.{◌≡◌, ◌+◌, ◌-◌, ◌*◌, ◌≤◌, ◌<◌, length, slice_get};
+ghost use Rattle.std.specs.Prelude.{◌≡◌, ◌+◌, ◌-◌, ◌*◌, ◌≤◌, ◌<◌, length};
 ghost use Rattle.neighbours.specs.Walk.{unmet, is_own, pass, walk_on, found_by, squares_from};
 
-use std::marker::Model;
-
 use kernel::Place;
+use std::marker::Model;
 
 // A walk: its sums of squares stand at the front, in order, and how many they are and the greatest of them beside.
 #[derive(Drop)]
@@ -44,26 +43,20 @@ impl Walker {
         }
     }
 
-    // How many it has met.
-    pub fn met(&self) -> usize
-        ensures { result ≡ length self.now.sums }
+    // The sums of squares of those it has met, in order.
+    pub fn sums(&self) -> &[f64]
+        ensures sums { result.now ≡ self.now.sums }
+        ensures few { length result.now ≤ 512 }
     {
-        self.met
+        &self.buffer[..self.met]
     }
 
-    // The greatest of their sums of squares.
+    // The greatest of them.
     pub fn greatest(&self) -> f64
         ensures { result ≡ self.now.greatest }
     {
-        self.greatest
-    }
-
-    // The sum of squares of the pantry that was met in this place of the order.
-    pub fn sum(&self, at: usize) -> Option<f64>
-        ensures { result ≡ slice_get self.now.sums at }
-    {
-        let buffer = &self.buffer;
-        if at < self.met { Some(buffer[at]) } else { None }
+        let Walker { greatest, .. } = self;
+        *greatest
     }
 
     // Pantry j met from the place, unless it is the walk's own.
@@ -71,13 +64,14 @@ impl Walker {
         requires { (2 * j + 1 < length coords.now) × (length self.old.sums < 512) }
         ensures { self.new ≡ pass own (squares_from coords.now place.east place.north) j self.old }
     {
-        if !is_own(own, j) {
-            let s = place.squares(Place::at(coords, j));
-            let at = self.met;
-            self.buffer[at] = s;
-            self.met = at + 1;
-            self.greatest = real::max(self.greatest, s);
+        if is_own(own, j) {
+            return;
         }
+        let s = place.squares(Place::at(coords, j));
+        let at = self.met;
+        self.buffer[at] = s;
+        self.met = at + 1;
+        self.greatest = real::max(self.greatest, s);
     }
 
     // The walk taken on over the pantries `from` to `to` - 1, seen from the place.
@@ -102,10 +96,11 @@ impl Walker {
     pub fn found_by(&self, k: usize) -> f64
         ensures { result ≡ found_by k self.now }
     {
-        let s = selection::select(&self.buffer[..self.met], k, self.greatest);
+        let greatest = self.greatest();
+        let s = selection::select(self.sums(), k, greatest);
         if s > 0.0 {
             return root::sqrt(s);
         }
-        real::max(root::sqrt(self.greatest), f64::EPSILON)
+        real::max(root::sqrt(greatest), f64::EPSILON)
     }
 }

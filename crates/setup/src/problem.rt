@@ -2,9 +2,8 @@
 ghost use Rattle.std.specs.Prelude.{◌≡◌};
 ghost use Rattle.setup.specs.Shape.{Shaped};
 
-use std::marker::Model;
-
 use super::Setup;
+use std::marker::Model;
 
 // The columns of the data, as they are lent: whatever their lengths.
 #[derive(Drop)]
