@@ -14,7 +14,7 @@ mod reaching;
 pub use reaching::{guess_distance, settle_distance};
 
 // 000's three spatial kernels.
-#[derive(Clone, Copy)]
+#[derive(Clone, Copy, PartialEq, Eq)]
 pub enum GwrKernel {
     Gaussian,
     Bisquare,
