@@ -33,6 +33,7 @@ pub fn nearest_from(
 }
 
 // 000's `local_bandwidth_distance`.
+#[tactic(auto, using(crate::proofs::Bandwidths::by_count, crate::proofs::Bandwidths::by_distance))]
 pub fn local_bandwidth_distance(coords: &[f64], n: usize, i: usize, bandwidth: GwrBandwidth) -> f64
     requires lengths { (length coords.now ≡ 2 * n) × (i < n) × (n ≤ 512) }
     requires usable { Usable bandwidth }

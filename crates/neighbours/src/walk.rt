@@ -22,6 +22,7 @@ pub fn begin() -> Walker
 }
 
 // Whether pantry j is the walk's own.
+#[tactic(auto, using(crate::proofs::Walks::own_is))]
 fn is_own(own: Option<usize>, j: usize) -> bool
     ensures { result ≡ is_own own j }
 {
@@ -69,6 +70,7 @@ pub fn walk_on(
     ensures { Holds (walk_on own (squares_from coords.now east north) from to (walk_in sums.old start.met start.greatest)) sums.old sums.new result.met result.greatest }
 {
     let mut w = start;
+    // An index: pantry j is told from the walk's own by its number, and a zip of numbers and pairs is no plainer.
     for j in from..to {
         w = pass(w, coords, j, east, north, own, &mut *sums);
     }
