@@ -1,12 +1,12 @@
 -- Demand 2: document 01 sets the steps of exp and ln and adds limits; else the Rust rules. Kernels, golden section, AICc and square root are held against their published definitions, the listed spots apart.
 -- Definitions only; proofs/DemandTwo proves it, each part by a theorem of the crate that has the definition.
 -- That the function `gwr_fit` equals the definition of its name, in every bit of its answer and its output and on every input, is its contract; the definition is 000's `gwr_fit` line by line, the default count apart, of unguarded jobs whose data ask for no trusts; with 02's line added of guarded ones, and with 02's product in each weight where there are trusts. Here is what it says beyond that.
-use Rattle.std.specs.Prelude.{ℕ, ◌+◌, ◌-◌, ◌*◌, ◌/◌, ◌%◌, ◌^◌, ◌≤◌, ◌<◌, min, max, ◌≡◌, Bool, true, false, not, cond, T, pos, length, Float}
+use Rattle.std.specs.Prelude.{Some, ℕ, ◌+◌, ◌-◌, ◌*◌, ◌/◌, ◌%◌, ◌^◌, ◌≤◌, ◌<◌, min, max, ◌≡◌, Bool, true, false, not, cond, T, pos, length, Float}
 use mathlib.Core.List.{List, [], ◌∷◌, Permᴰ}
 use Rattle.std.specs.Float.{nan, inf, fin, binary64}
 use Rattle.std.specs.Float.Ieee.{mul, neg, lt, le, eq, fits, is_nan, to_bits}
 use Rattle.std.specs.Float.Ieee.Scale.{finite}
-use Rattle.claims.specs.Words.{zero64, one64, eps64, least_normal, inf64, from_count, Fraction, fraction, fraction_of, Once, OnceBy, Arithmetic, rounded, exact, root, NearestRoot, floor708, exp_k, expv, lnv, LnFinite, SplitAs, DeviationNotFinite, GwrKernel, Gaussian, Bisquare, Exponential, unusable, weight_of, FromZeroToOne, kernel_formula, exact_weight, power_of_e, plain_weight, NoneOf, GwrBandwidth, AdaptiveKnn, Setup, Data, under, setup_of, Sized, ceil_root, LeastRoot, resolve_count, At, between, nearest_of, all_distances, met_distances, Ascending, kth_nearest, weights_at, fit_coefficients, ExactFit, Solves, deviation, freedom, aicc_published, aicc_formula, pi64, exhausted, corrected_aic, Bracket, inv_phi, inv_phi2, G, G2, start_of, goes_left, narrow_of, Span, Inside, Framed, KieferRound, Narrowed, tried_of, played_of, SearchInside, Valley, ScoredBy, Follows, GwrCriterion, Unguarded, Guarded, GwrOptions, options_of, named, bandwidth_at, fit_tests, accept_of, trial_of, golden_section_min, final_of, gwr_fit}
+use Rattle.claims.specs.Words.{zero64, one64, eps64, least_normal, inf64, from_count, Fraction, fraction, fraction_of, Once, OnceBy, Arithmetic, rounded, exact, root, NearestRoot, floor708, exp_k, expv, lnv, LnFinite, SplitAs, DeviationNotFinite, GwrKernel, Gaussian, Bisquare, Exponential, unusable, weight_of, FromZeroToOne, kernel_formula, exact_weight, power_of_e, plain_weight, NoneOf, GwrBandwidth, AdaptiveKnn, Setup, Data, under, setup_of, Sized, ceil_root, LeastRoot, resolve_count, between, nearest_of, all_distances, met_distances, Ascending, kth_nearest, weights_at, fit_coefficients, ExactFit, Solves, deviation, freedom, aicc_published, aicc_formula, pi64, exhausted, corrected_aic, Bracket, inv_phi, inv_phi2, G, G2, start_of, goes_left, narrow_of, Span, Inside, Framed, KieferRound, Narrowed, tried_of, played_of, SearchInside, Valley, ScoredBy, Follows, GwrCriterion, Unguarded, Guarded, GwrOptions, options_of, named, bandwidth_at, fit_tests, accept_of, trial_of, golden_section_min, final_of, gwr_fit}
 use Rattle.claims.specs.Words.{NearPowerSeries, WeightSumNotPositive, trusted_weight, data_of, trusting, solve_location, Job, begin_of, turn_of}
 use Rattle.local.specs.declared.Outcome.TheVariants as outcome
 use Rattle.criterion.specs.declared.Criterion.TheVariants as criterion
@@ -134,11 +134,11 @@ pub record DemandTwo : Type 1 where
   -- a location's bandwidth is its k-th smallest distance to the others (`all_distances`), if that is zero the greatest of them and EPS
   pub kth_smallest_lem : (d : Data) (p : ℕ) (o : GwrOptions) (out : ℕ) → NoneOf (fit_tests d p o out) → (i k : ℕ) →
       let n = (setup_of d p o).n in
-      i < n → 1 ≤ k → nearest_of d.coords n i k ≡ kth_nearest (At i) (between d.coords i) n k
+      i < n → 1 ≤ k → nearest_of d.coords n i k ≡ kth_nearest (Some i) (between d.coords i) n k
   -- `all_distances` has every one of them, in ascending order
-  pub all_distances_lem : (coords : List Float) (i m : ℕ) → Permᴰ (all_distances (At i) (between coords i) m) (met_distances (At i) (between coords i) m)
+  pub all_distances_lem : (coords : List Float) (i m : ℕ) → Permᴰ (all_distances (Some i) (between coords i) m) (met_distances (Some i) (between coords i) m)
   pub ascending : (d : Data) (p : ℕ) (o : GwrOptions) (out : ℕ) → NoneOf (fit_tests d p o out) → (i : ℕ) → i < (setup_of d p o).n
-      → Ascending (all_distances (At i) (between d.coords i) (setup_of d p o).n)
+      → Ascending (all_distances (Some i) (between d.coords i) (setup_of d p o).n)
   -- 02: an unsearched count 0 becomes the larger of p + 3 and the least whole number whose square reaches n, then is capped at n - 1 and raised to at least 1
   pub default_count : (n p r : ℕ) → LeastRoot n r → resolve_count 0 n p ≡ max (min (max (p + 3) r) (n - 1)) 1
   -- there is such a number

@@ -42,7 +42,6 @@ pub use Rattle.neighbours.specs.Bandwidth.{local_bandwidth_distance}
 pub use Rattle.neighbours.specs.Smallest.{Ascending}
 unfoldable pub use Rattle.neighbours.specs.Smallest.{all_distances, met_distances, kth_nearest}
 pub use Rattle.neighbours.specs.Walk.{between, nearest_of}
-pub use Rattle.neighbours.specs.declared.Own.TheVariants.{At}
 pub use Rattle.weights.specs.Weights.{trusted_weight, weights_at}
 unfoldable pub use Rattle.weights.specs.Weights.{weight_from, weights_from}
 unfoldable pub use Rattle.normal.specs.Equations.{normal_step, equations_of}
@@ -104,7 +103,6 @@ pub use Rattle.stepping.specs.declared.Stage.{Stage}
 pub use Rattle.stepping.specs.declared.Stage.TheVariants.{First, Second, Round, Final, Ended}
 pub use Rattle.starting.specs.Begin.{start_job, begun_with}
 unfoldable pub use Rattle.starting.specs.Begin.{begin_of}
-pub use Rattle.starting.specs.declared.Begun.{Begun}
 unfoldable pub use Rattle.fitness.specs.Fitness.{sizes_fit, is_fit, kinds_fit}
 unfoldable pub use Rattle.job.specs.Run.{steps, run}
 pub use Rattle.job.specs.Turn.{answer_at, ran_of, refused_turn}

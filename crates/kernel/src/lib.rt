@@ -15,7 +15,7 @@ mod reaching;
 pub use place::Place;
 
 // 000's three spatial kernels.
-#[derive(Clone, Copy)]
+#[derive(Clone, Copy, PartialEq, Eq)]
 pub enum GwrKernel {
     Gaussian,
     Bisquare,

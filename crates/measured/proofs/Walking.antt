@@ -1,26 +1,17 @@
 -- A walk stopped and taken up again, put together from what the calls give.
-use mathlib.Core.Path.{◌≡◌, sym, ap, ◌∙◌}
+use mathlib.Core.Path.{◌≡◌, ap, ◌∙◌}
 use mathlib.Core.List.{List}
 use Prim.Native.Nat.{ℕ, ◌+◌, ◌-◌, ◌/◌, ◌≤◌, ◌<◌}
 use native.Mathlib.Omega.{arith}
-use borrow.Author.Tests.{le-leb, lt-leb, lt-ltb, le-ltb}
-use lib.ListN.{length, take, get_or, set, get_or-eq_default}
-use lib.Seq.{length-take-le, get_or-take}
-use lib.Ieee.{Float, nan}
+use borrow.Author.Tests.{le-leb, lt-leb}
+use lib.ListN.{length, take, get_or, set}
+use lib.Seq.{length-take-le}
+use lib.Ieee.{Float}
 use Rattle.real.specs.Reals.{zero64, from_count}
 use Rattle.std.specs.Prelude.{Option}
 use Rattle.neighbours.specs.Walk.{Walk, unmet, walk_on, found_by, squares_from, walk_in, Holds}
 use Rattle.neighbours.proofs.Walks.{walk_few, held_is}
-use Rattle.neighbours.proofs.Smallest.{get_or_any}
 use Rattle.measured.specs.Walks.{own_by, end_of, walks_of, asked_of}
-
--- ---- a sum by its place
-module _ (l : List Float) (met at : ℕ) (few : met ≤ 512) (long : length l ≡ 512) where
-  pub sum_there : at < met → get_or l at nan ≡ get_or (take met l) at zero64
-  sum_there h = sym (get_or-take met l at nan h) ∙ get_or_any (take met l) at nan zero64 (omega (arith, length-take-le met l (omega arith)))
-
-  pub sum_none : met ≤ at → zero64 ≡ get_or (take met l) at zero64
-  sum_none h = sym (get_or-eq_default (take met l) zero64 (omega (arith, length-take-le met l (omega arith))))
 
 -- ---- what is seen of an end
 pub end_seen : (l seen : List Float) (met k at : ℕ) (g : Float) {b c x : Float} → met ≤ 512 → length l ≡ 512 → b ≡ found_by k (walk_in l met g) → c ≡ from_count met → x ≡ get_or (take met l) at zero64

@@ -117,13 +117,11 @@ fn sum_at(w: Walker, sums: &[f64; 512], at: usize) -> f64
     requires { (w.met ≤ 512) × (length sums.now ≡ 512) }
     ensures { result ≡ get_or (take w.met sums.now) at zero64 }
 {
-    if at < w.met {
-        return sums[at];
-    }
-    0.0
+    sums[..w.met].get(at).copied().unwrap_or(0.0)
 }
 
 // What is seen of a walk's end.
+#[tactic(auto, using(crate::proofs::Walking::end_seen))]
 fn see(w: Walker, sums: &[f64; 512], k: usize, at: usize, seen: &mut [f64; 5])
     requires { (w.met ≤ 512) × (length sums.now ≡ 512) }
     ensures { seen.new ≡ end_of (walk_in sums.now w.met w.greatest) k at seen.old }
@@ -167,6 +165,7 @@ fn walks(
 
 // The same of the pantries that the coordinates have; an own number from their number on is nobody's. Answers 1, or 0 where they are
 // more than 512, or fewer than m.
+#[tactic(auto, using(crate::proofs::Walking::asked_served, crate::proofs::Walking::asked_beyond, crate::proofs::Walking::asked_many))]
 #[unsafe(no_mangle)]
 pub extern "C" fn zescolumba_walk(
     coords: &[f64],
@@ -201,6 +200,7 @@ fn criterion_by(number: u32) -> GwrCriterion
 }
 
 // The number, beside what a summary reports and how many rows were written.
+#[tactic(auto, unfolding(crate::specs::Fits::told_of))]
 fn tell(number: u32, s: Summary, rows: usize, reals: &mut [f64; 2], counts: &mut [u64; 2]) -> u32
     ensures { (result, (reals.new, counts.new)) ≡ told_of number s rows reals.old counts.old }
 {

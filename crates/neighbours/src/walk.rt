@@ -25,6 +25,7 @@ impl Model for Walker {
 }
 
 // Whether pantry j is the walk's own.
+#[tactic(auto, using(crate::proofs::Walks::own_is))]
 fn is_own(own: Option<usize>, j: usize) -> bool
     ensures { result ≡ is_own own j }
 {
@@ -86,6 +87,7 @@ impl Walker {
         requires { (from ≤ to) × (2 * to ≤ length coords.now) × (length self.old.sums + (to - from) ≤ 512) }
         ensures { self.new ≡ walk_on own (squares_from coords.now place.east place.north) from to self.old }
     {
+        // An index: pantry j is told from the walk's own by its number.
         for j in from..to {
             self.pass(coords, j, place, own);
         }

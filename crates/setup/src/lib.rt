@@ -32,7 +32,7 @@ impl GwrBandwidth {
 }
 
 // How AICc is judged where more is spent than the degrees of freedom: worked as it falls, as in 000, or plus infinity.
-#[derive(Clone, Copy)]
+#[derive(Clone, Copy, PartialEq, Eq)]
 pub enum GwrCriterion {
     Unguarded,
     Guarded,
