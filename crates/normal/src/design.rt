@@ -1,6 +1,15 @@
 // Design rows.
 ghost use Rattle.std.specs.Prelude.{◌≡◌, ◌*◌, ◌≤◌, ◌<◌, length};
-ghost use Rattle.normal.specs.Design.{design_row};
+ghost use Rattle.normal.specs.Design.{predictors_of, design_row};
+
+// The p predictors of observation j.
+pub fn predictors_of(x: &[f64], n: usize, p: usize, j: usize) -> &[f64]
+    requires { (length x.now ≡ n * p) × (j < n) × (n ≤ 512) × (p ≤ 7) }
+    ensures { result.now ≡ predictors_of x.now p j }
+{
+    let at = j * p;
+    &x[at..at + p]
+}
 
 // The design row of observation j: 1, and its p predictors.
 pub fn design_row(x: &[f64], n: usize, p: usize, j: usize) -> [f64; 8]
@@ -9,8 +18,6 @@ pub fn design_row(x: &[f64], n: usize, p: usize, j: usize) -> [f64; 8]
 {
     let mut r = [0.0; 8];
     r[0] = 1.0;
-    for q in 0..p {
-        r[q + 1] = x[j * p + q];
-    }
+    r[1..p + 1].copy_from_slice(predictors_of(x, n, p, j));
     r
 }

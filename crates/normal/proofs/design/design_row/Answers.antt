@@ -1,31 +1,15 @@
--- `normal::design::design_row` meets its contract: the loop's row is the fold of `design_step` up to q; a cell of observation j stands within the predictors.
-use borrow.Author.Rules.{rules}
-use mathlib.Core.Path.{refl}
+-- `normal::design::design_row` meets its contract: the predictors stand behind the 1.
+use mathlib.Core.Path.{◌∙◌}
+use Prim.Native.Nat.{◌+◌, ◌-◌}
 use native.Mathlib.Omega.{arith}
-use lib.Arith.{digits_lt}
-use Rattle.real.proofs.Fold.{none, more, done}
-use Rattle.normal.specs.Design.{design_step, design_row}
+use Rattle.normal.specs.Design.{predictors_of}
+use Rattle.normal.proofs.DesignCells.{own_long, own_within, design_alone, copied_in}
 use Rattle.normal.proofs.design.design_row.Goals as goal
 
-pub loop-q-init : goal.loop-q-init
-loop-q-init c = none (search rules)
-
-pub overflow_mul-r : goal.overflow_mul-r
-overflow_mul-r c = omega (arith, (digits_lt c.requires.1 c.loop-q-test.true))
-
-pub overflow_add-r : goal.overflow_add-r
-overflow_add-r c = omega (arith, (digits_lt c.requires.1 c.loop-q-test.true))
-
-pub offset_bounds-x-j : goal.offset_bounds-x-j
-offset_bounds-x-j c = omega (arith, (digits_lt c.requires.1 c.loop-q-test.true))
-
-pub bounds-x-j : goal.bounds-x-j
-bounds-x-j c = omega (arith, (digits_lt c.requires.1 c.loop-q-test.true))
-
-pub loop-q-preserved : goal.loop-q-preserved
-unfolding design_step
-loop-q-preserved c = more c.loop-q.invariant (search rules) refl
-
 pub returns : goal.returns
-unfolding design_row
-returns c = done c.loop-q.invariant (search rules)
+returns c =
+    let s = c.args in
+    let within = own_within s.x.now s.n s.p s.j c.requires.0 c.requires.1 in
+    let long = own_long s.x.now s.p s.j within in
+    rw (c.copy_from_slice.ensures.after, c.predictors_of.ensures)
+    (copied_in (predictors_of s.x.now s.p s.j) (s.p + 1 - 1) (omega (arith, long, c.requires.3)) (omega (arith, long)) ∙ design_alone s.x.now s.p s.j within)
