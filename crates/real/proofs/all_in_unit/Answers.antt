@@ -3,11 +3,11 @@ use Rattle.std.proofs.Common.{rules}
 use Rattle.real.proofs.Finite.{none, more, done}
 use Rattle.real.proofs.all_in_unit.Goals as goal
 
-pub loop-i-init : goal.loop-i-init
-loop-i-init c = none
+pub loop-x-init : goal.loop-x-init
+loop-x-init c = none
 
-pub loop-i-preserved : goal.loop-i-preserved
-loop-i-preserved c = more c.loop-i.invariant (search rules) (rw (c.both-good.ensures, c.in_unit-here.ensures))
+pub loop-x-preserved : goal.loop-x-preserved
+loop-x-preserved c = more c.loop-x.invariant (search rules) (rw c.in_unit-good.ensures)
 
 pub returns : goal.returns
-returns c = done c.loop-i.invariant (search rules)
+returns c = done c.loop-x.invariant (search rules)

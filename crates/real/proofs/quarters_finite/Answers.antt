@@ -9,7 +9,7 @@ loop-i-init c = no_fours finite _ _
 
 pub loop-i-preserved : goal.loop-i-preserved
 loop-i-preserved c =
-    more_fours finite _ _ (search rules) c.loop-i.i c.loop-i.good c.both-good.result c.loop-i.invariant (search rules) (rw (c.both-good.ensures, c.four_finite-here.ensures))
+    more_fours finite _ _ (search rules) c.loop-i.i c.loop-i.good _ c.loop-i.invariant (search rules) (rw c.four_finite-here.ensures)
 
 pub returns : goal.returns
 returns c =
