@@ -38,6 +38,7 @@ pub fn greatest_distance(coords: &[f64], n: usize) -> f64
 }
 
 // The least distance that a search tries, where hi is the greatest.
+#[tactic(auto, unfolding(crate::specs::Bounds::least_distance))]
 pub fn least_distance(hi: f64, n: usize) -> f64
     requires { n ≤ 512 }
     ensures { result ≡ least_distance hi n }
@@ -47,13 +48,11 @@ pub fn least_distance(hi: f64, n: usize) -> f64
 }
 
 // Whether a distance can be a bandwidth: it is finite and above zero.
+#[tactic(auto, using(real::proofs::Std::finite_same), unfolding(crate::specs::Bounds::usable_distance))]
 pub fn usable_distance(b: f64) -> bool
     ensures { result ≡ usable_distance b }
 {
-    if real::is_finite(b) {
-        return b > 0.0;
-    }
-    false
+    b.is_finite() & (b > 0.0)
 }
 
 // The least count that a search tries: max(p + 1, 2).
@@ -61,7 +60,7 @@ pub fn least_count(p: usize) -> usize
     requires { p ≤ 7 }
     ensures { result ≡ least_count p }
 {
-    real::max_count(p + 1, 2)
+    (p + 1).max(2)
 }
 
 // The greatest count that a search tries: max(n - 1, L).
@@ -69,8 +68,7 @@ pub fn greatest_count(n: usize, p: usize) -> usize
     requires { (1 ≤ n) × (n ≤ 512) × (p ≤ 7) }
     ensures { result ≡ greatest_count n p }
 {
-    let least = least_count(p);
-    real::max_count(n - 1, least)
+    (n - 1).max(least_count(p))
 }
 
 // The bandwidth at a point of the search, of the options' kind.
