@@ -1,7 +1,8 @@
--- The library's words for a number's size, its finiteness and a clamp, in those of this repository.
-use Rattle.std.proofs.Common.{◌≡◌, false, refl}
+-- The library's words for a number's tests, its size and infinity, in those of this repository.
+use Rattle.std.proofs.Common.{◌≡◌, ℕ, ◌*◌, Bool, true, false, not, refl}
 use Rattle.std.specs.Float.{float_is_finite, float_with_sign}
-use lib.Ieee.{Float, nan, inf, fin, binary64, of_bits}
+use borrow.Author.Tests.{eq-eqb}
+use lib.Ieee.{Float, nan, inf, fin, binary64, of_bits, up, down, eq, level, is_nan}
 use lib.Ieee.Scale.{finite}
 use Rattle.real.specs.Reals.{magnitude, inf64}
 
@@ -23,3 +24,15 @@ size_same (fin s m e) = refl
 pub infinity_same : of_bits binary64 0x7FF0_0000_0000_0000 ≡ inf64
 unfolding of_bits
 infinity_same = refl
+
+-- `x.is_nan()`, by a comparison
+pub number_same : (x : Float) → eq x x ≡ not (is_nan x)
+unfolding eq is_nan
+number_same nan = refl
+number_same (inf true) = refl
+number_same (inf false) = refl
+number_same (fin s m e) = go s (m * up e * down e)
+  where
+    go : (s : Bool) (a : ℕ) → level s a s a ≡ true
+    go true a = rw (eq-eqb a a refl)
+    go false a = rw (eq-eqb a a refl)

@@ -5,10 +5,11 @@ ghost use Rattle.std.specs.Float.Ieee.{eq, to_bits};
 ghost use Rattle.root.specs.Guess.{estimate_of, newton_of, guess_of};
 
 // The pattern of x, and 0 for NaN.
+#[tactic(auto, using(real::proofs::Std::number_same))]
 fn pattern(x: f64) -> u64
     ensures { result ≡ cond (eq x x) (to_bits binary64 x) 0 }
 {
-    if x == x { f64::to_bits(x) } else { 0 }
+    if x.is_nan() { 0 } else { x.to_bits() }
 }
 
 // A guess at the root of x, but for a power of two: at that of s, from 1/2 to 2, which has the digits of x and an exponent that

@@ -45,8 +45,8 @@ fn split(b: u64) -> Parts
 {
     let field = b / 0x10_0000_0000_0000;
     if field == 0 {
-        let z = u64::leading_zeros(b);
-        halved(b << (z - 11), 64 - z as u64)
+        let z = b.leading_zeros();
+        halved(b << (z - 11), 64 - u64::from(z))
     } else {
         halved(0x10_0000_0000_0000 + b % 0x10_0000_0000_0000, field + 52)
     }
@@ -58,10 +58,8 @@ fn positive(x: f64, y: f64) -> f64
     requires below_infinity { lt x inf64 ≡ true }
     ensures { result ≡ root_units (in_units x) }
 {
-    let b = f64::to_bits(x);
-    let p = split(b);
-    let a = p.a;
-    let q = quick(a, y);
+    let p = split(x.to_bits());
+    let q = quick(p.a, y);
     f64::from_bits((p.h + 484) * 0x10_0000_0000_0000 + q)
 }
 
@@ -71,13 +69,13 @@ pub fn sqrt_near(x: f64, y: f64) -> f64
     ensures { result ≡ root x }
 {
     if x > 0.0 {
-        if x < f64::from_bits(0x7FF0_0000_0000_0000) {
+        if x < f64::INFINITY {
             return positive(x, y);
         }
         return x;
     }
     if x < 0.0 {
-        return 0.0 / 0.0;
+        return f64::NAN;
     }
     x
 }
