@@ -9,15 +9,6 @@ use Rattle.root.proofs.split.Goals as goal
 pub overflow_sub-z : goal.overflow_sub-z
 overflow_sub-z c = (subnormal c.args.b c.requires.not_zero (omega arith)).least
 
-pub overflow_cast-z : goal.overflow_cast-z
-overflow_cast-z c = omega (arith, (subnormal c.args.b c.requires.not_zero (omega arith)).most)
-
-pub overflow_shl-b : goal.overflow_shl-b
-overflow_shl-b c = omega (arith, (subnormal c.args.b c.requires.not_zero (omega arith)).most)
-
-pub overflow_sub-from : goal.overflow_sub-from
-overflow_sub-from c = omega (arith, (subnormal c.args.b c.requires.not_zero (omega arith)).most)
-
 pub halved-requires : goal.halved-requires
 halved-requires c =
     (omega arith, (subnormal c.args.b c.requires.not_zero (omega arith)).low, (subnormal c.args.b c.requires.not_zero (omega arith)).high)

@@ -1,5 +1,4 @@
 -- `root::guessing::guess` meets its contract.
-use borrow.Author.Rules.{rules}
 use native.Mathlib.Omega.{arith}
 use Prim.Native.Nat.{ℕ, ◌+◌, ◌%◌}
 use mathlib.Core.Path.{ap, ◌∙◌}
@@ -8,25 +7,9 @@ use Rattle.root.specs.Guess.{estimate_of, newton_of, guess_of}
 use Rattle.real.proofs.Values.{no_nan}
 use Rattle.root.proofs.guessing.guess.Goals as goal
 
-pub pattern-requires : goal.pattern-requires
-unfolding guess_of of_bits
-pattern-requires c = search rules
-
-pub overflow_add-s : goal.overflow_add-s
-unfolding guess_of of_bits
-overflow_add-s c = search rules
-
 pub float_from_bits-s : goal.float_from_bits-s
 unfolding guess_of of_bits
 float_from_bits-s c = no_nan _ (omega arith)
-
-pub estimate-requires : goal.estimate-requires
-unfolding guess_of of_bits
-estimate-requires c = search rules
-
-pub newton-requires : goal.newton-requires
-unfolding guess_of of_bits
-newton-requires c = search rules
 
 pub returns : goal.returns
 unfolding guess_of
