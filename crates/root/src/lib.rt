@@ -26,6 +26,7 @@ struct Parts {
 
 // The parts of a number of `size` digits, the first 53 of which are `sig`: an even length leaves one digit more in a. Lengths
 // are even and odd by chance, so there is no branch.
+#[tactic(auto, using(crate::proofs::Powers::by_length))]
 fn halved(sig: u64, size: u64) -> Parts
     requires { (size < 2099) × (2 ^ 52 ≤ sig) × (sig < 2 ^ 53) }
     ensures { Parted (sig * 2 ^ (size + 53)) size result.a result.h }
@@ -38,6 +39,7 @@ fn halved(sig: u64, size: u64) -> Parts
 
 // The parts of the number of units of 2^-1074 in the positive finite f64 with the pattern b. A subnormal is shifted by its
 // leading zeros, and a normal number has its leading digit put back.
+#[tactic(auto, using(crate::proofs::Powers::subnormal))]
 fn split(b: u64) -> Parts
     requires not_zero { 0 < b }
     requires finite_pattern { b < 2047 * 2 ^ 52 }

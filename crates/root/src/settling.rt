@@ -4,7 +4,9 @@ ghost use Rattle.root.specs.Root.{nearest_root};
 
 use super::plain::plain;
 
-// a * 2^52 - g * g + 2^56, where g is near enough to the root that every step fits in 64 bits; else 0.
+// a * 2^52 - g * g + 2^56, where g is near enough to the root that every step fits in 64 bits; else 0, and no Option: `settle` refuses
+// a 0 by the test that it makes of every other number.
+#[tactic(auto, using(crate::proofs::Squares::guess_square))]
 fn excess(a: u64, g: u64) -> u64
     requires { (a < 2 ^ 54) × (g < 2 ^ 53) }
     ensures { (0 < result → result + g * g ≡ a * 2 ^ 52 + 2 ^ 56) × (result < 2 ^ 58) }

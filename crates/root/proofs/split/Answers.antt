@@ -6,13 +6,6 @@ use Rattle.root.specs.Parts.{units_of_bits}
 use Rattle.root.proofs.Powers.{subnormal, parted, normal_size, normal_value}
 use Rattle.root.proofs.split.Goals as goal
 
-pub overflow_sub-z : goal.overflow_sub-z
-overflow_sub-z c = (subnormal c.args.b c.requires.not_zero (omega arith)).least
-
-pub halved-requires : goal.halved-requires
-halved-requires c =
-    (omega arith, (subnormal c.args.b c.requires.not_zero (omega arith)).low, (subnormal c.args.b c.requires.not_zero (omega arith)).high)
-
 pub returns-then-field-eq0 : goal.returns-then-field-eq0
 unfolding units_of_bits
 returns-then-field-eq0 c =
