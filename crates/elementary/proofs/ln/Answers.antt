@@ -2,7 +2,6 @@
 use Rattle.std.proofs.Common.{◌≡◌, ℕ, ◌/◌, ◌^◌, ◌<◌, true, not, T, pos, sym, ap, ◌∙◌, subst, arith, lit≤}
 use lib.Ieee.{Float, nan, inf, fin, binary64, lt, sub, minus, of_bits, of_int, to_bits, is_nan}
 use lib.Ieee.Bits.{to_bits-lt}
-use Rattle.real.proofs.Values.{no_nan}
 use Rattle.elementary.specs.Ln.{lnv, ln_parts, mantissa, exponent}
 use Rattle.elementary.proofs.WholeDifference.{whole_difference}
 use Rattle.elementary.proofs.ln.Goals as goal
@@ -18,12 +17,6 @@ e_is : (b : ℕ) (e : Float) → b < 2 ^ 64 → e ≡ of_int binary64 (pos (b / 
 unfolding of_bits of_int
 e_is b e h k = rw k (whole_difference (b / 2 ^ 52) 1023 (omega arith) (lit≤ tt))
 
-pub float_to_bits-b : goal.float_to_bits-b
-float_to_bits-b c = number _ _ c.if-v-2.true
-
-pub float_from_bits-m : goal.float_from_bits-m
-float_from_bits-m c = no_nan _ (omega arith)
-
 pub overflow_cast-b : goal.overflow_cast-b
 overflow_cast-b c = omega (arith, (to_bits-lt binary64 c.args.v (subst T (sym c.well_formed.0.1) tt)))
 
@@ -33,11 +26,3 @@ returns-then-v-2 c =
     c.ln_parts.ensures
     ∙ ap (λ (e : Float). ln_parts (mantissa c.args.v) e) (e_is (to_bits binary64 c.args.v) _ (to_bits-lt binary64 c.args.v (subst T (sym c.well_formed.0.1) tt)) c.from-e.ensures)
     ∙ sym (rw (c.if-v.true, c.if-v-2.true))
-
-pub returns-else-v-2 : goal.returns-else-v-2
-unfolding lnv of_bits
-returns-else-v-2 c = sym (rw (c.if-v.true, c.if-v-2.false))
-
-pub returns-else-v : goal.returns-else-v
-unfolding lnv of_bits
-returns-else-v c = sym (rw c.if-v.false)
