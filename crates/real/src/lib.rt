@@ -40,6 +40,7 @@ pub fn both(a: bool, b: bool) -> bool
 }
 
 // Whether four numbers are finite: the first less itself is zero or else NaN, and zero times another is zero only where that is finite.
+#[tactic(auto, using(crate::proofs::Values::told, crate::proofs::Values::times_tells, crate::proofs::Values::less_tells))]
 fn four_finite(a: f64, b: f64, c: f64, d: f64) -> bool
     ensures { result ≡ (finite a && finite b && finite c && finite d) }
 {
@@ -48,6 +49,7 @@ fn four_finite(a: f64, b: f64, c: f64, d: f64) -> bool
 
 // Whether the first 4 h numbers of s are finite, four at a time that stand h apart: one comparison for four, and neighbours beside
 // each other for the processor to take two at once.
+#[tactic(auto, using(crate::proofs::Finite::more_fours, crate::proofs::Finite::all_fours))]
 fn quarters_finite(s: &[f64], h: usize) -> bool
     requires { 4 * h ≤ length s.now }
     ensures { result ≡ all_finite (take (4 * h) s.now) }
@@ -61,6 +63,7 @@ fn quarters_finite(s: &[f64], h: usize) -> bool
 }
 
 // Whether the numbers of s are finite: zero times each of them.
+#[tactic(auto, using(crate::proofs::Finite::times_none, crate::proofs::Finite::times_more, crate::proofs::Finite::times_done))]
 fn rest_finite(s: &[f64]) -> bool
     ensures { result ≡ all_finite s.now }
 {
@@ -72,6 +75,7 @@ fn rest_finite(s: &[f64]) -> bool
 }
 
 // Whether every number of s is finite: fours and what is left, of a few numbers no fours.
+#[tactic(auto, using(crate::proofs::Finite::all_of_parts))]
 pub fn all_finite(s: &[f64]) -> bool
     ensures { result ≡ all_finite s.now }
 {
@@ -91,6 +95,7 @@ pub fn in_unit(x: f64) -> bool
 }
 
 // Whether every number of s lies from 0 to 1.
+#[tactic(auto, using(crate::proofs::Finite::more, crate::proofs::Finite::done))]
 pub fn all_in_unit(s: &[f64]) -> bool
     ensures { result ≡ all_in_unit s.now }
 {

@@ -1,16 +1,10 @@
 -- `elementary::ln` meets its contract: its tests are the definition's. A number below infinity is no NaN, m's pattern has the exponent's field 1023, and e is an exact difference.
-use Rattle.std.proofs.Common.{◌≡◌, ℕ, ◌/◌, ◌^◌, ◌<◌, true, not, T, pos, sym, ap, ◌∙◌, subst, arith, lit≤}
-use lib.Ieee.{Float, nan, inf, fin, binary64, lt, sub, minus, of_bits, of_int, to_bits, is_nan}
+use Rattle.std.proofs.Common.{◌≡◌, ℕ, ◌/◌, ◌^◌, ◌<◌, T, pos, sym, ap, ◌∙◌, subst, arith, lit≤}
+use lib.Ieee.{Float, binary64, sub, minus, of_bits, of_int, to_bits}
 use lib.Ieee.Bits.{to_bits-lt}
 use Rattle.elementary.specs.Ln.{lnv, ln_parts, mantissa, exponent}
 use Rattle.elementary.proofs.WholeDifference.{whole_difference}
 use Rattle.elementary.proofs.ln.Goals as goal
-
-number : (v : Float) (top : Float) → lt v top ≡ true → T (not (is_nan v))
-unfolding lt is_nan
-number nan top e = subst T (sym e) tt
-number (inf s) top e = tt
-number (fin s m e') top e = tt
 
 -- e, the exact difference
 e_is : (b : ℕ) (e : Float) → b < 2 ^ 64 → e ≡ of_int binary64 (pos (b / 2 ^ 52)) → sub binary64 e (of_bits binary64 0x408F_F800_0000_0000) ≡ of_int binary64 (minus (b / 2 ^ 52) 1023)
