@@ -40,7 +40,6 @@ pub fn both(a: bool, b: bool) -> bool
 }
 
 // Whether four numbers are finite: the first less itself is zero or else NaN, and zero times another is zero only where that is finite.
-#[tactic(auto, using(crate::proofs::Values::told, crate::proofs::Values::times_tells, crate::proofs::Values::less_tells))]
 fn four_finite(a: f64, b: f64, c: f64, d: f64) -> bool
     ensures { result ≡ (finite a && finite b && finite c && finite d) }
 {
@@ -48,22 +47,19 @@ fn four_finite(a: f64, b: f64, c: f64, d: f64) -> bool
 }
 
 // Whether the first 4 h numbers of s are finite, four at a time that stand h apart: one comparison for four, and neighbours beside
-// each other for the processor to take two at once.
-#[tactic(auto, using(crate::proofs::Finite::more_fours, crate::proofs::Finite::all_fours))]
+// each other for the processor to take two at once. An index: a zip of the four quarters is no plainer.
 fn quarters_finite(s: &[f64], h: usize) -> bool
     requires { 4 * h ≤ length s.now }
     ensures { result ≡ all_finite (take (4 * h) s.now) }
 {
     let mut good = true;
     for i in 0..h {
-        let here = four_finite(s[i], s[h + i], s[2 * h + i], s[3 * h + i]);
-        good &= here;
+        good &= four_finite(s[i], s[h + i], s[2 * h + i], s[3 * h + i]);
     }
     good
 }
 
 // Whether the numbers of s are finite: zero times each of them.
-#[tactic(auto, using(crate::proofs::Finite::times_none, crate::proofs::Finite::times_more, crate::proofs::Finite::times_done))]
 fn rest_finite(s: &[f64]) -> bool
     ensures { result ≡ all_finite s.now }
 {
@@ -114,7 +110,8 @@ pub fn abs(x: f64) -> f64
     x.abs()
 }
 
-// The greater of a and b, and a where they are equal. For numbers that are not NaN.
+// The greater of a and b, and a where they are equal. For numbers that are not NaN: Rust's `f64::max` leaves open which of two zeros
+// it gives, and this does not.
 #[tactic(auto, unfolding(crate::specs::Reals::greater))]
 pub fn max(a: f64, b: f64) -> f64
     ensures { result ≡ greater a b }
@@ -122,7 +119,7 @@ pub fn max(a: f64, b: f64) -> f64
     if a < b { b } else { a }
 }
 
-// The lesser of a and b, and a where they are equal. For numbers that are not NaN.
+// The lesser of a and b, and a where they are equal, in the same way.
 #[tactic(auto, unfolding(crate::specs::Reals::lesser))]
 pub fn min(a: f64, b: f64) -> f64
     ensures { result ≡ lesser a b }

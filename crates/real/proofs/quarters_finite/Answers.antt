@@ -6,7 +6,7 @@ use Rattle.real.proofs.quarters_finite.Goals as goal
 
 pub loop-i-preserved : goal.loop-i-preserved
 loop-i-preserved c =
-    more_fours finite _ _ (search rules) c.loop-i.i c.loop-i.good _ c.loop-i.invariant (search rules) (rw c.four_finite-here.ensures)
+    more_fours finite _ _ (search rules) c.loop-i.i c.loop-i.good _ c.loop-i.invariant (search rules) (rw c.four_finite-good.ensures)
 
 pub returns : goal.returns
 returns c =
