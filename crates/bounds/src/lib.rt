@@ -3,36 +3,23 @@
 
 ghost use Rattle.std.specs.Prelude.{◌≡◌, ◌*◌, ◌≤◌, ◌<◌, length};
 ghost use Rattle.setup.specs.Shape.{Sized};
-ghost use Rattle.bounds.specs.Bounds.{farther_from, greatest_distance, least_distance, usable_distance, least_count, greatest_count, bandwidth_at};
+ghost use Rattle.bounds.specs.Bounds.{greatest_distance, least_distance, usable_distance, least_count, greatest_count, bandwidth_at};
 
 use setup::{GwrBandwidth, Setup};
-
-// The greatest distance from pantry i to those after it, and `before`.
-fn farther_from(coords: &[f64], n: usize, i: usize, before: f64) -> f64
-    requires { (length coords.now ≡ 2 * n) × (i < n) × (n ≤ 512) }
-    ensures { result ≡ farther_from coords.now n i before }
-{
-    let mut most = before;
-    for j in i + 1..n {
-        let d = kernel::distance(
-            coords[2 * i],
-            coords[2 * i + 1],
-            coords[2 * j],
-            coords[2 * j + 1],
-        );
-        most = real::max(most, d);
-    }
-    most
-}
 
 // The greatest distance between two pantries, 0 where there is no pair.
 pub fn greatest_distance(coords: &[f64], n: usize) -> f64
     requires { (length coords.now ≡ 2 * n) × (n ≤ 512) }
     ensures { result ≡ greatest_distance coords.now n }
 {
+    let (pantries, _) = coords.as_chunks::<2>();
     let mut most = 0.0;
     for i in 0..n {
-        most = farther_from(coords, n, i, most);
+        let here = pantries[i];
+        for there in &pantries[i + 1..] {
+            let d = kernel::distance(here[0], here[1], there[0], there[1]);
+            most = real::max(most, d);
+        }
     }
     most
 }
@@ -72,13 +59,12 @@ pub fn greatest_count(n: usize, p: usize) -> usize
 }
 
 // The bandwidth at a point of the search, of the options' kind.
+#[tactic(auto, unfolding(crate::specs::Bounds::bandwidth_at, crate::specs::Bounds::point_of))]
 pub fn bandwidth_at(u: Setup, point: f64) -> GwrBandwidth
     requires { Sized u }
     ensures { result ≡ bandwidth_at u point }
 {
-    let options = u.options;
-    let kind = options.bandwidth;
-    match kind {
+    match u.options.bandwidth {
         GwrBandwidth::Fixed(_) => GwrBandwidth::Fixed(point),
         GwrBandwidth::AdaptiveKnn(_) => {
             let least = least_count(u.p);
