@@ -5,7 +5,6 @@ ghost use Rattle.std.specs.Prelude.{◌≡◌, ◌&&◌, ◌≤◌, ◌<◌, leb
 ghost use Rattle.setup.specs.Shape.{Sized};
 ghost use Rattle.fitness.specs.Fitness.{sizes_fit, kinds_fit, trials_fit, solves_fit, is_fit};
 
-use real::both;
 use setup::{GwrBandwidth, Setup};
 use stepping::{Job, Stage};
 
@@ -17,7 +16,7 @@ fn sizes_fit(u: Setup, location: usize) -> bool
     let p = u.p;
     if n <= 512 {
         if p <= 7 {
-            return both(p + 1 <= n, location < n);
+            return (p + 1 <= n) & (location < n);
         }
     }
     false
@@ -34,7 +33,7 @@ fn kinds_fit(kind: GwrBandwidth, bandwidth: GwrBandwidth) -> bool
         },
         GwrBandwidth::AdaptiveKnn(_) => match bandwidth {
             GwrBandwidth::Fixed(_) => false,
-            GwrBandwidth::AdaptiveKnn(k) => both(1 <= k, k <= 512),
+            GwrBandwidth::AdaptiveKnn(k) => (1 <= k) & (k <= 512),
         },
     }
 }
@@ -43,7 +42,7 @@ fn kinds_fit(kind: GwrBandwidth, bandwidth: GwrBandwidth) -> bool
 fn in_rounds(made: usize) -> bool
     ensures { result ≡ (leb 2 made && leb made 101) }
 {
-    both(2 <= made, made <= 101)
+    (2 <= made) & (made <= 101)
 }
 
 // Whether so many trials can have been made at this stage.

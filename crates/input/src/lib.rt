@@ -11,7 +11,7 @@ ghost use Rattle.input.specs.Checks.{shape_tests, value_tests, output_tests, roo
 
 use bounds::usable_distance;
 use checks::Check;
-use real::{all_finite, all_in_unit, both};
+use real::{all_finite, all_in_unit};
 use refusal::Refusal;
 use setup::{GwrBandwidth, GwrOptions, Setup};
 
@@ -72,7 +72,7 @@ fn observation_good(v: f64, east: f64, north: f64, trust: f64) -> bool
     ensures { result ≡ (finite v && finite east && finite north && in_unit trust) }
 {
     let z = (v - v) * east * north;
-    both(z <= trust, trust <= 1.0)
+    (z <= trust) & (trust <= 1.0)
 }
 
 // Whether all observations are good.
@@ -83,7 +83,7 @@ fn observations_good(coords: &[f64], y: &[f64], trust: &[f64]) -> bool
     let mut good = true;
     for i in 0..y.len() {
         let here = observation_good(y[i], coords[2 * i], coords[2 * i + 1], trust[i]);
-        good = both(good, here);
+        good &= here;
     }
     good
 }
@@ -94,7 +94,7 @@ pub fn values_good(coords: &[f64], x: &[f64], y: &[f64], trust: &[f64]) -> bool
     ensures { result ≡ (all_finite y.now && all_finite coords.now && all_in_unit trust.now && all_finite x.now) }
 {
     let here = observations_good(coords, y, trust);
-    both(here, all_finite(x))
+    here & all_finite(x)
 }
 
 // Refusal 13: an output with no room for n rows.
@@ -145,9 +145,9 @@ pub fn lengths_fit(coords: &[f64], x: &[f64], y: &[f64], trust: &[f64], u: Setup
     requires { Sized u }
     ensures { result ≡ lengths_fit u (trusted_data coords.now x.now y.now trust.now) }
 {
-    let answers = both(y.len() == u.n, trust.len() == u.n);
-    let rest = both(x.len() == u.n * u.p, answers);
-    both(coords.len() == 2 * u.n, rest)
+    let answers = (y.len() == u.n) & (trust.len() == u.n);
+    let rest = (x.len() == u.n * u.p) & answers;
+    (coords.len() == 2 * u.n) & rest
 }
 
 // Whether a distance is given that cannot be used.
@@ -180,7 +180,7 @@ pub fn seeks_distance(searched: bool, bandwidth: GwrBandwidth) -> bool
 fn nothing_between(searched: bool, bandwidth: GwrBandwidth, hi: f64) -> bool
     ensures { result ≡ nothing_between searched bandwidth hi }
 {
-    both(seeks_distance(searched, bandwidth), !usable_distance(hi))
+    seeks_distance(searched, bandwidth) & !usable_distance(hi)
 }
 
 // Refusals 11 and 12, where hi is the greatest pair distance.

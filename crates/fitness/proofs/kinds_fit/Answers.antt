@@ -16,4 +16,4 @@ returns-in-Fixed-bandwidth-2 c = rw (c.in-AdaptiveKnn.is, c.in-Fixed-bandwidth-2
 
 pub returns-in-AdaptiveKnn-bandwidth-2 : goal.returns-in-AdaptiveKnn-bandwidth-2
 unfolding kinds_fit
-returns-in-AdaptiveKnn-bandwidth-2 c = rw (c.in-AdaptiveKnn.is, c.in-AdaptiveKnn-bandwidth-2.is) c.both.ensures
+returns-in-AdaptiveKnn-bandwidth-2 c = rw (c.in-AdaptiveKnn.is, c.in-AdaptiveKnn-bandwidth-2.is)

@@ -5,7 +5,7 @@ use Rattle.fitness.proofs.sizes_fit.Goals as goal
 
 pub returns-then-p-le7 : goal.returns-then-p-le7
 unfolding sizes_fit
-returns-then-p-le7 c = rw (le-leb _ _ c.if-n-le512.true, le-leb _ _ c.if-p-le7.true) c.both.ensures
+returns-then-p-le7 c = rw (le-leb _ _ c.if-n-le512.true, le-leb _ _ c.if-p-le7.true)
 
 pub returns-else-p-le7 : goal.returns-else-p-le7
 unfolding sizes_fit
