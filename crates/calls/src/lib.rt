@@ -8,7 +8,6 @@ ghost use Rattle.request.specs.Lengths.{ByteLengths};
 ghost use Rattle.setup.specs.Data.{trusting};
 ghost use Rattle.gwr.specs.Fit.{gwr_fit};
 
-use checks::Check;
 use criterion::Summary;
 use gwr::FitAnswer;
 use refusal::Refusal;
@@ -149,10 +148,9 @@ pub fn fit_bytes(
     match choice {
         Choice::Unknown => Refusal::UnknownNumber.number(),
         Choice::Known(options) => {
-            let check = request::check_bytes(coords.len(), x.len(), y.len(), p);
-            match check {
-                Check::Refused(r) => r.number(),
-                Check::Pass => fit_parts(coords, x, y, p as usize, options, out, summary),
+            match request::check_bytes(coords.len(), x.len(), y.len(), p) {
+                Err(r) => r.number(),
+                Ok(()) => fit_parts(coords, x, y, p as usize, options, out, summary),
             }
         }
     }

@@ -7,7 +7,7 @@ use mathlib.Core.Bool.{Bool, not}
 use mathlib.Core.List.{List, ◌++◌}
 use borrow.Author.Tests.{eq-eqb, ne_eqb, lt-ltb, le-ltb}
 use Rattle.refusal.specs.declared.Refusal.{Refusal}
-use Rattle.std.specs.Prelude.{Ok, Err}
+use Rattle.std.specs.Prelude.{Result, Ok, Err, IsErr, IsErrAnd}
 use Rattle.checks.specs.Judge.{Check, judge, ruled}
 use Rattle.checks.proofs.Judge.{first_here, judge_rest, judge_end, judge_append, ruled_refused, ruled_pass}
 
@@ -19,6 +19,12 @@ pub made_not : {a b c : Bool} → a ≡ b → not a ≡ c → not b ≡ c
 made_not e f = sym (ap not e) ∙ f
 
 pub ruleset tests = (first_here, judge_rest, judge_end, eq-eqb, ne_eqb, lt-ltb, le-ltb, made, made_not)
+
+-- the refusal that a `?` hands on
+pub handed_on : {A : Type 0} {r : Result A Refusal} {q : Refusal} → IsErr r × IsErrAnd r (λ z. z ≡ q) → r ≡ Err q
+handed_on {r = Ok v} h = absurd h.1
+handed_on {r = Err z} h = ap Err h.1
+
 
 -- a list that a function reads for the caller
 pub read : {a b c : Check} → a ≡ b → a ≡ c → b ≡ c

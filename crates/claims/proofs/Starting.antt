@@ -6,11 +6,10 @@ use native.Mathlib.Omega.{arith}
 use borrow.Author.Tests.{eq-eqb, le-ltb}
 use lib.ListN.{length}
 use lib.Ieee.{Float}
-use Rattle.checks.specs.declared.Check.TheVariants as check
+use Rattle.std.specs.Prelude.{Ok, Err}
 use Rattle.claims.specs.Words.{judge, GwrBandwidth, Fixed, AdaptiveKnn, GwrOptions, Setup, Data, trust_count, setup_of, Sized, Bracket, Plan, Acceptance, value_tests, output_tests, lengths_fit, plan_of, accept_of, planned, answered, gwr_fit, Stage, First, Final, Job, fresh_job, OfKind, TrialsAt, Sound, start_job, begun_with, begin_of, lent_tests}
 use Rattle.claims.proofs.Laws.{Serves, accept_planned, Accepted, kind_at, Holds}
 use Rattle.plan.specs.declared.Plan.TheVariants as plan
-use Rattle.plan.specs.declared.Acceptance.TheVariants as acceptance
 use Rattle.starting.specs.declared.Beginning.TheVariants as beginning
 
 -- ---- the bandwidth is of the options' kind
@@ -42,16 +41,16 @@ module _ (d : Data) (p : ℕ) (o : GwrOptions) (out : List Float) where
   -- the input was accepted, job and fit are those of the plan, and the state that beginning gives holds
   pub record Started : Type 0 where
     pub accepted : Accepted d p o (length out)
-    pub plan : accept_of d p o (length out) ≡ acceptance.Planned own
+    pub plan : accept_of d p o (length out) ≡ Ok own
     pub job : (begin_of d p o (length out)).job ≡ start_job u own
     pub fit : gwr_fit d p o out ≡ planned own u d out
     pub holds : Holds u (length out) ((begin_of d p o (length out)).job, out)
 
-  with_plan : (q : Plan) → accept_of d p o (length out) ≡ acceptance.Planned q → Started
+  with_plan : (q : Plan) → accept_of d p o (length out) ≡ Ok q → Started
   unfolding begin_of gwr_fit
   with_plan q e =
       let s = accept_planned d p o (length out) e in
-      let i : accept_of d p o (length out) ≡ acceptance.Planned own = e ∙ ap acceptance.Planned s.is in
+      let i : accept_of d p o (length out) ≡ Ok own = e ∙ ap Ok s.is in
       let job : (begun_with (accept_of d p o (length out)) u).job ≡ start_job u own = ap (λ (a : Acceptance). (begun_with a u).job) i in
       record {
         accepted = s.accepted;
@@ -68,11 +67,11 @@ module _ (d : Data) (p : ℕ) (o : GwrOptions) (out : List Float) where
   started h = go (accept_of d p o (length out)) refl h
     where
       go : (a : Acceptance) → accept_of d p o (length out) ≡ a → (begun_with a u).answer ≡ beginning.Ready → Started
-      go (acceptance.Refused r) e h = let z : ◌≡◌ {A = ℕ} 0 1 = cc in absurd (omega arith)
-      go (acceptance.Planned q) e h = with_plan q e
+      go (Err r) e h = let z : ◌≡◌ {A = ℕ} 0 1 = cc in absurd (omega arith)
+      go (Ok q) e h = with_plan q e
 
   -- ---- what is lent
-  pub lent_passes : Accepted d p o (length out) → judge (lent_tests u d (length out)) ≡ check.Pass
+  pub lent_passes : Accepted d p o (length out) → judge (lent_tests u d (length out)) ≡ Ok tt
   unfolding judge lent_tests lengths_fit value_tests output_tests
   lent_passes a =
       let s = a.shaped in

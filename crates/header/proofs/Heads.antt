@@ -6,13 +6,12 @@ use Prim.Native.Nat.{ℕ, ◌≤◌, ◌<◌}
 use native.Mathlib.Omega.{arith}
 use borrow.Author.Tests.{eq-eqb, ne_eqb, eqb-false, ltb-false, lt-ltb, le-ltb}
 use lib.ListN.{length}
+use Rattle.std.specs.Prelude.{Ok, Err}
 use Rattle.wire.specs.Wire.{load_of}
 use Rattle.refusal.specs.declared.Refusal.{Refusal}
 use Rattle.refusal.specs.declared.Refusal.TheVariants.{NoCoordinates, TooManyObservations, TooManyPredictors, UnknownNumber}
 use Rattle.setup.specs.declared.GwrOptions.{GwrOptions}
-use Rattle.checks.specs.declared.Check.{Check}
-use Rattle.checks.specs.declared.Check.TheVariants as check
-use Rattle.checks.specs.Judge.{judge, ruled, FirstOf, NoneOf}
+use Rattle.checks.specs.Judge.{Check, judge, ruled, FirstOf, NoneOf}
 use Rattle.checks.proofs.Judge.{ruled_refused, ruled_pass, none_head}
 use Rattle.request.specs.declared.Choice.{Choice}
 use Rattle.request.specs.declared.Choice.TheVariants as choice
@@ -108,8 +107,8 @@ unfolding header_of ruled
 header_whole s h e = go (judge (header_tests s)) refl e
   where
     go : (k : Check) → judge (header_tests s) ≡ k → ruled k Refused (Whole (head_of s)) ≡ Whole h → PassedHeader s × (head_of s ≡ h)
-    go check.Pass f i = (header_passed s f, whole_one i)
-    go (check.Refused r) f i = refused_whole i
+    go (Ok passed) f i = (header_passed s f, whole_one i)
+    go (Err r) f i = refused_whole i
 
 pub head_sized : (s : List ℕ) (h : Head) → header_of s ≡ Whole h → (h.n ≤ 512) × (h.p ≤ 7)
 head_sized s h e = let w = header_whole s h e in subst (λ (k : Head). (k.n ≤ 512) × (k.p ≤ 7)) w.1 (w.0.few, w.0.narrow)

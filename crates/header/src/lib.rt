@@ -7,7 +7,6 @@ ghost use Rattle.header.specs.Headers.{sized_header, header_of, parts_len};
 ghost use Rattle.header.specs.Cuts.{cut_tests};
 ghost use Rattle.header.specs.Headers.{asked};
 
-use checks::Check;
 use refusal::Refusal;
 use request::Choice;
 
@@ -78,22 +77,22 @@ fn parts_len(n: usize, p: usize) -> usize
 }
 
 // The first part cut short gives 2, 5 or 6.
-pub fn check_cuts(size: usize, n: usize, p: usize) -> Check
+pub fn check_cuts(size: usize, n: usize, p: usize) -> Result<(), Refusal>
     requires { (n ≤ 512) × (p ≤ 7) }
     ensures { result ≡ judge (cut_tests size n p) }
 {
     let places = 16 * n;
     let predictors = places + 8 * (n * p);
     if size < places {
-        return Check::Refused(Refusal::OddCoordinates);
+        return Err(Refusal::OddCoordinates);
     }
     if size < predictors {
-        return Check::Refused(Refusal::PredictorLength);
+        return Err(Refusal::PredictorLength);
     }
     if size < predictors + 8 * n {
-        return Check::Refused(Refusal::ResponseLength);
+        return Err(Refusal::ResponseLength);
     }
-    Check::Pass
+    Ok(())
 }
 
 // How many bytes are to be read behind a header.

@@ -8,7 +8,6 @@ ghost use Rattle.listing.specs.Jobs.{answer_text, whole_text, job_text};
 ghost use Rattle.header.specs.Cuts.{responses_end};
 ghost use Rattle.listing.specs.Printed.{printed};
 
-use checks::Check;
 use header::{Head, Header};
 
 // The text of a fit that answered so, with n rows of `width` numbers.
@@ -60,10 +59,9 @@ pub fn print_job(h: Head, parts: &[u8], text: &mut [u8]) -> usize
     requires { (h.n ≤ 512) × (h.p ≤ 7) × (102400 ≤ length text.old) }
     ensures { WrittenText text.old 0 (job_text h parts.now) text.new result }
 {
-    let check = header::check_cuts(parts.len(), h.n, h.p);
-    match check {
-        Check::Refused(r) => text::put_refused(text, r.number()),
-        Check::Pass => {
+    match header::check_cuts(parts.len(), h.n, h.p) {
+        Err(r) => text::put_refused(text, r.number()),
+        Ok(()) => {
             let mut out = [0u8; 45056];
             let mut summary = [0u8; 24];
             print_whole(h, parts, &mut out, &mut summary, text)

@@ -6,7 +6,6 @@ ghost use Rattle.checks.specs.Judge.{judge};
 ghost use Rattle.request.specs.Options.{kernel_of, kind_of, chosen_of, options_of};
 ghost use Rattle.request.specs.Lengths.{part_tests, byte_tests};
 
-use checks::Check;
 use kernel::GwrKernel;
 use refusal::Refusal;
 use setup::{GwrBandwidth, GwrOptions};
@@ -77,35 +76,35 @@ pub fn options_of(kernel: u64, kind: u64, bandwidth: u64) -> Choice
 }
 
 // Refusals 5 and 6 of byte lengths.
-fn check_part_bytes(x: usize, y: usize, n: usize, p: usize) -> Check
+fn check_part_bytes(x: usize, y: usize, n: usize, p: usize) -> Result<(), Refusal>
     requires { (n ≤ 512) × (p ≤ 7) }
     ensures { result ≡ judge (part_tests x y n p) }
 {
     if x != 8 * (n * p) {
-        return Check::Refused(Refusal::PredictorLength);
+        return Err(Refusal::PredictorLength);
     }
     if y != 8 * n {
-        return Check::Refused(Refusal::ResponseLength);
+        return Err(Refusal::ResponseLength);
     }
-    Check::Pass
+    Ok(())
 }
 
 // Refusals 1 to 6 of byte lengths; p is a number of predictors.
-pub fn check_bytes(coords: usize, x: usize, y: usize, p: u64) -> Check
+pub fn check_bytes(coords: usize, x: usize, y: usize, p: u64) -> Result<(), Refusal>
     ensures { result ≡ judge (byte_tests coords x y p) }
 {
     if coords == 0 {
-        return Check::Refused(Refusal::NoCoordinates);
+        return Err(Refusal::NoCoordinates);
     }
     if 0 < coords % 16 {
-        return Check::Refused(Refusal::OddCoordinates);
+        return Err(Refusal::OddCoordinates);
     }
     let n = coords / 16;
     if 512 < n {
-        return Check::Refused(Refusal::TooManyObservations);
+        return Err(Refusal::TooManyObservations);
     }
     if 7 < p {
-        return Check::Refused(Refusal::TooManyPredictors);
+        return Err(Refusal::TooManyPredictors);
     }
     check_part_bytes(x, y, n, p as usize)
 }

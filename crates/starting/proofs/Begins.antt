@@ -10,9 +10,8 @@ use Rattle.golden.specs.declared.Bracket.{Bracket}
 use Rattle.golden.specs.Golden.{no_bracket, start_of}
 use Rattle.plan.specs.declared.Plan.{Plan}
 use Rattle.plan.specs.declared.Plan.TheVariants.{Settled, Sought}
-use Rattle.plan.specs.declared.Acceptance.{Acceptance}
 use Rattle.bounds.specs.Bounds.{bandwidth_at}
-use Rattle.plan.specs.Plan.{accept_of}
+use Rattle.plan.specs.Plan.{Acceptance, accept_of}
 use Rattle.stepping.specs.declared.Stage.TheVariants.{First, Final}
 use Rattle.stepping.specs.declared.Job.{Job}
 use Rattle.stepping.specs.Step.{fresh_job}

@@ -1,5 +1,5 @@
 -- Beginning: 01's 'Search and turns'. Definitions only.
-use Rattle.std.specs.Prelude.{ℕ}
+use Rattle.std.specs.Prelude.{ℕ, Ok, Err}
 use Rattle.setup.specs.declared.GwrBandwidth.TheVariants.{AdaptiveKnn}
 use Rattle.setup.specs.declared.GwrOptions.{GwrOptions}
 use Rattle.setup.specs.declared.Setup.{Setup}
@@ -8,10 +8,8 @@ use Rattle.setup.specs.Shape.{setup_of}
 use Rattle.golden.specs.Golden.{no_bracket, start_of}
 use Rattle.plan.specs.declared.Plan.{Plan}
 use Rattle.plan.specs.declared.Plan.TheVariants.{Settled, Sought}
-use Rattle.plan.specs.declared.Acceptance.{Acceptance}
-use Rattle.plan.specs.declared.Acceptance.TheVariants as acceptance
 use Rattle.bounds.specs.Bounds.{bandwidth_at}
-use Rattle.plan.specs.Plan.{accept_of}
+use Rattle.plan.specs.Plan.{Acceptance, accept_of}
 use Rattle.stepping.specs.declared.Stage.TheVariants.{First, Final}
 use Rattle.stepping.specs.declared.Job.{Job}
 use Rattle.stepping.specs.Step.{fresh_job}
@@ -28,8 +26,8 @@ start_job u (Settled b) = fresh_job u Final no_bracket b
 start_job u (Sought lo hi) = let g = start_of lo hi in fresh_job u First g (bandwidth_at u g.c)
 
 abbrev pub begun_with : Acceptance → Setup → Begun
-begun_with (acceptance.Refused r) u = record { answer = Refused r; job = blank_job u.options }
-begun_with (acceptance.Planned q) u = record { answer = Ready; job = start_job u q }
+begun_with (Err r) u = record { answer = Refused r; job = blank_job u.options }
+begun_with (Ok q) u = record { answer = Ready; job = start_job u q }
 
 -- 01: beginning runs the input checks and sets up the first trial or the final fit; out is the output's length
 unfoldable pub begin_of : Data → ℕ → GwrOptions → ℕ → Begun

@@ -7,7 +7,7 @@ ghost use Rattle.setup.specs.Shape.{Sized};
 ghost use Rattle.starting.specs.Begin.{blank_job, start_job, begin_of};
 
 use golden::Bracket;
-use plan::{Acceptance, Plan};
+use plan::Plan;
 use refusal::Refusal;
 use setup::{GwrBandwidth, GwrOptions, Setup};
 use stepping::{Job, Stage};
@@ -69,16 +69,15 @@ pub fn begin(
 ) -> Begun
     ensures { result ≡ begin_of (trusted_data coords.now x.now y.now trust.now) p options (length out.now) }
 {
-    let accepted = plan::accept(coords, x, y, trust, p, options, out.len());
-    match accepted {
-        Acceptance::Refused(r) => {
+    match plan::accept(coords, x, y, trust, p, options, out.len()) {
+        Err(r) => {
             let job = blank(options);
             Begun {
                 answer: Beginning::Refused(r),
                 job,
             }
         }
-        Acceptance::Planned(plan) => {
+        Ok(plan) => {
             let n = coords.len() / 2;
             let job = start(Setup { options, n, p }, plan);
             Begun {

@@ -6,6 +6,7 @@ use Prim.Native.Nat.{ℕ, ◌+◌}
 use lib.Dec.{ltb, T}
 use lib.ListN.{length, take, drop}
 use lib.Ieee.{Float, le, nan, inf, fin, lt, eq, is_nan, of_bits}
+use Rattle.std.specs.Prelude.{Ok, Err}
 use Rattle.real.specs.Reals.{zero64}
 use Rattle.wire.specs.Wire.{real_of, placed, bytes_of}
 use Rattle.refusal.specs.declared.Refusal.{Refusal}
@@ -14,7 +15,6 @@ use Rattle.kernel.specs.declared.GwrKernel.{GwrKernel}
 use Rattle.kernel.specs.declared.Weighed.{Weighed}
 use Rattle.kernel.specs.declared.Weighed.TheVariants.{Weight, BadDistance}
 use Rattle.kernel.specs.Weight.{weight_of, weighed}
-use Rattle.checks.specs.declared.Check.TheVariants as check
 use Rattle.checks.specs.Judge.{judge, ruled, NoneOf, Decides, Means}
 use Rattle.checks.proofs.Judge.{none_head, decides}
 use Rattle.request.specs.declared.KernelChoice.TheVariants as kernel
@@ -42,11 +42,11 @@ pub weigh_decides : (k : GwrKernel) (d b : Float) → Decides (distance_tests d)
 unfolding weighed judge
 weigh_decides k d b = record { refused = λ r e. bad (le zero64 d) r e; served = λ e. good (le zero64 d) e }
   where
-    bad : (c : Bool) (r : Refusal) → cond (not c) (check.Refused CoordinateNotFinite) check.Pass ≡ check.Refused r → cond c (Weight (weight_of k d b)) BadDistance ≡ BadDistance
+    bad : (c : Bool) (r : Refusal) → cond (not c) (Err CoordinateNotFinite) (Ok tt) ≡ Err r → cond c (Weight (weight_of k d b)) BadDistance ≡ BadDistance
     bad true r e = cc
     bad false r e = refl
 
-    good : (c : Bool) → cond (not c) (check.Refused CoordinateNotFinite) check.Pass ≡ check.Pass → cond c (Weight (weight_of k d b)) BadDistance ≡ Weight (weight_of k d b)
+    good : (c : Bool) → cond (not c) (Err CoordinateNotFinite) (Ok tt) ≡ Ok tt → cond c (Weight (weight_of k d b)) BadDistance ≡ Weight (weight_of k d b)
     good true e = refl
     good false e = cc
 
@@ -65,7 +65,7 @@ module _ (number d b : ℕ) (out : List ℕ) where
       w = weight_of k (real_of d) (real_of b)
 
       go : (s f : Bool)
-          → ruled (cond s (check.Refused OutputTooShort) (cond (not f) (check.Refused CoordinateNotFinite) check.Pass)) (λ (r : Refusal). refused_weight r out) (given_weight w out)
+          → ruled (cond s (Err OutputTooShort) (cond (not f) (Err CoordinateNotFinite) (Ok tt))) (λ (r : Refusal). refused_weight r out) (given_weight w out)
           ≡ cond s (refused_weight OutputTooShort out) (placed_weight (cond f (Weight w) BadDistance) out)
       go true f = refl
       go false true = refl

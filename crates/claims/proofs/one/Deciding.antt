@@ -5,9 +5,9 @@ use mathlib.Core.List.{List, []}
 use Prim.Native.Nat.{ℕ}
 use lib.ListN.{length, replicate, length-replicate}
 use lib.Ieee.{Float}
+use Rattle.std.specs.Prelude.{Ok, Err}
 use Rattle.claims.specs.Words.{zero64, Refusal, FirstOf, NoneOf, Decides, GwrOptions, Setup, Data, setup_of, Plan, Acceptance, fit_tests, plan_of, accept_of, answered, gwr_fit, Begun, sizes_fit, is_fit, begun_with, begin_of}
 use Rattle.claims.proofs.Laws.{accept_decides, fit_means}
-use Rattle.plan.specs.declared.Acceptance.TheVariants as acceptance
 use Rattle.gwr.specs.declared.FitAnswer.TheVariants as fit
 use Rattle.starting.specs.declared.Beginning.TheVariants as beginning
 use Rattle.claims.specs.Whole.{to_final}
@@ -34,7 +34,7 @@ module _ (d : Data) (p : ℕ) (o : GwrOptions) where
   module _ (out : List Float) where
     -- an accepted job begins
     ready : NoneOf (fit_tests d p o (length out)) → (begin_of d p o (length out)).answer ≡ beginning.Ready
-    ready h = ap (λ (b : Begun). b.answer) (begun_as (length out) (acceptance.Planned q) ((accept_decides d p o (length out)).served h))
+    ready h = ap (λ (b : Begun). b.answer) (begun_as (length out) (Ok q) ((accept_decides d p o (length out)).served h))
 
     fit_served : NoneOf (fit_tests d p o (length out)) → JobServed d p o out
     unfolding AllLawful
@@ -51,13 +51,13 @@ module _ (d : Data) (p : ℕ) (o : GwrOptions) where
     begin_served : NoneOf (fit_tests d p o (length out)) → BeginServed (begin_of d p o (length out))
     begin_served h = let s = started d p o out (ready h) in record { answer = ready h; job = (fit_means _).1 s.holds.held }
 
-  blank_unfit : (r : Refusal) → is_fit (begun_with (acceptance.Refused r) u).job ≡ false
+  blank_unfit : (r : Refusal) → is_fit (begun_with (Err r) u).job ≡ false
   unfolding is_fit sizes_fit
   blank_unfit r = refl
 
   begin_refused : (out : ℕ) (r : Refusal) → FirstOf (fit_tests d p o out) r → BeginRefused (begin_of d p o out) r
   begin_refused out r h =
-      subst⁻¹ (λ (b : Begun). BeginRefused b r) (begun_as out (acceptance.Refused r) ((accept_decides d p o out).refused r h)) (record { answer = refl; no_job = blank_unfit r })
+      subst⁻¹ (λ (b : Begun). BeginRefused b r) (begun_as out (Err r) ((accept_decides d p o out).refused r h)) (record { answer = refl; no_job = blank_unfit r })
 
   -- of any length of output
   pub begin_decides : (out : ℕ) → Decides (fit_tests d p o out) (BeginRefused (begin_of d p o out)) (BeginServed (begin_of d p o out))
