@@ -6,16 +6,16 @@ use Rattle.request.proofs.Lengths.{passed}
 use Rattle.calls.proofs.fit_bytes.Goals as goal
 
 pub fit_parts-requires : goal.fit_parts-requires
-fit_parts-requires c = passed _ _ _ _ (sym c.check_bytes-check.ensures ∙ c.in-Pass.is)
+fit_parts-requires c = passed _ _ _ _ (sym c.check_bytes.ensures ∙ c.in-Ok.is)
 
 pub returns-in-Unknown : goal.returns-in-Unknown
 returns-in-Unknown c =
     triple c.number.ensures refl refl ∙ sym (call_unknown _ _ _ _ _ _ _ _ _ (sym c.options_of-choice.ensures ∙ c.in-Unknown.is))
 
-pub returns-in-Refused : goal.returns-in-Refused
-returns-in-Refused c =
-    triple c.number-in-Refused.ensures refl refl ∙ sym (call_bytes _ _ _ _ _ _ _ _ _ _ _ (sym c.options_of-choice.ensures ∙ c.in-Known.is) (sym c.check_bytes-check.ensures ∙ c.in-Refused.is))
+pub returns-in-Err : goal.returns-in-Err
+returns-in-Err c =
+    triple c.number-in-Err.ensures refl refl ∙ sym (call_bytes _ _ _ _ _ _ _ _ _ _ _ (sym c.options_of-choice.ensures ∙ c.in-Known.is) (sym c.check_bytes.ensures ∙ c.in-Err.is))
 
-pub returns-in-Pass : goal.returns-in-Pass
-returns-in-Pass c =
-    c.fit_parts.ensures ∙ sym (call_parts _ _ _ _ _ _ _ _ _ _ (sym c.options_of-choice.ensures ∙ c.in-Known.is) (sym c.check_bytes-check.ensures ∙ c.in-Pass.is))
+pub returns-in-Ok : goal.returns-in-Ok
+returns-in-Ok c =
+    c.fit_parts.ensures ∙ sym (call_parts _ _ _ _ _ _ _ _ _ _ (sym c.options_of-choice.ensures ∙ c.in-Known.is) (sym c.check_bytes.ensures ∙ c.in-Ok.is))

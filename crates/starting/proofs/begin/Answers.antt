@@ -6,12 +6,12 @@ use Rattle.starting.proofs.begin.Goals as goal
 
 pub start-job-requires : goal.start-job-requires
 start-job-requires c =
-    (accept_planned _ _ _ _ (sym c.accept-accepted.ensures ∙ c.in-Planned.is)).accepted.shaped.sized
+    (accept_planned _ _ _ _ (sym c.accept.ensures ∙ c.in-Ok.is)).accepted.shaped.sized
 
-pub returns-in-Refused : goal.returns-in-Refused
-returns-in-Refused c =
-    begin_is _ _ _ _ _ _ (sym c.accept-accepted.ensures ∙ c.in-Refused.is) (rw c.blank-job.ensures)
+pub returns-in-Err : goal.returns-in-Err
+returns-in-Err c =
+    begin_is _ _ _ _ _ _ (sym c.accept.ensures ∙ c.in-Err.is) (rw c.blank-job.ensures)
 
-pub returns-in-Planned : goal.returns-in-Planned
-returns-in-Planned c =
-    begin_is _ _ _ _ _ _ (sym c.accept-accepted.ensures ∙ c.in-Planned.is) (rw c.start-job.ensures)
+pub returns-in-Ok : goal.returns-in-Ok
+returns-in-Ok c =
+    begin_is _ _ _ _ _ _ (sym c.accept.ensures ∙ c.in-Ok.is) (rw c.start-job.ensures)
