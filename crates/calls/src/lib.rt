@@ -10,8 +10,6 @@ ghost use Rattle.gwr.specs.Fit.{gwr_fit};
 
 use criterion::Summary;
 use gwr::FitAnswer;
-use refusal::Refusal;
-use request::Choice;
 use setup::GwrOptions;
 use sweep::Finish;
 
@@ -144,10 +142,9 @@ pub fn fit_bytes(
 ) -> u32
     ensures { (result, (out.new, summary.new)) ≡ fit_bytes coords.now x.now y.now p kernel kind bandwidth out.old summary.old }
 {
-    let choice = request::options_of(kernel, kind, bandwidth);
-    match choice {
-        Choice::Unknown => Refusal::UnknownNumber.number(),
-        Choice::Known(options) => {
+    match request::options_of(kernel, kind, bandwidth) {
+        Err(r) => r.number(),
+        Ok(options) => {
             match request::check_bytes(coords.len(), x.len(), y.len(), p) {
                 Err(r) => r.number(),
                 Ok(()) => fit_parts(coords, x, y, p as usize, options, out, summary),

@@ -1,3 +1,4 @@
 pub mod Published
 pub mod Weight
 pub mod Reach
+pub mod Numbers

@@ -33,7 +33,6 @@ use Rattle.calls.proofs.Judged.{call_decides}
 use Rattle.request.proofs.Lengths.{lengths_pass}
 use Rattle.calls.proofs.Served.{call_passed}
 use Rattle.header.specs.declared.Head.{Head}
-use Rattle.header.specs.declared.Header.TheVariants.{Whole, Refused}
 use Rattle.header.specs.Headers.{head_of, header_tests, header_of}
 use Rattle.listing.specs.Jobs.{refused_text, answer_text, call_of_parts, whole_text, job_text}
 use Rattle.header.specs.Cuts.{places_end, predictors_end, responses_end, cut_tests}
@@ -176,7 +175,7 @@ module _ (h : Head) (parts : List ℕ) (known : is_unknown (options_of h.kernel 
 
 -- ---- the whole input
 
-text_ruled : (k : Check) (h : Head) (parts : List ℕ) → text_of (ruled k Refused (Whole h)) parts ≡ ruled k refused_text (job_text h parts)
+text_ruled : (k : Check) (h : Head) (parts : List ℕ) → text_of (ruled k Err (Ok h)) parts ≡ ruled k refused_text (job_text h parts)
 unfolding ruled
 text_ruled (Ok passed) h parts = refl
 text_ruled (Err r) h parts = refl

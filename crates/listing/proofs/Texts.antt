@@ -6,6 +6,7 @@ use native.Mathlib.Omega.{arith}
 use borrow.Author.Tests.{lt-ltb, le-ltb}
 use lib.ListN.{length, take, drop, replicate, length-append, length-drop}
 use lib.Seq.{take_all}
+use Rattle.std.specs.Prelude.{Ok, Err}
 use Rattle.wire.specs.Wire.{load_of, placed}
 use Rattle.text.specs.Listing.{refused_line, listing, rows_of, WrittenText}
 use Rattle.refusal.proofs.Range.{numbered}
@@ -16,9 +17,7 @@ use Rattle.checks.proofs.Judge.{ruled_refused, ruled_pass}
 use Rattle.calls.specs.Calls.{AfterCall, fit_bytes}
 use Rattle.calls.proofs.Counts.{Answered, answered}
 use Rattle.header.specs.declared.Head.{Head}
-use Rattle.header.specs.declared.Header.{Header}
-use Rattle.header.specs.declared.Header.TheVariants.{Whole, Refused}
-use Rattle.header.specs.Headers.{header_of}
+use Rattle.header.specs.Headers.{Header, header_of}
 use Rattle.listing.specs.Jobs.{refused_text, answer_text, call_of_parts, whole_text, job_text}
 use Rattle.header.specs.Cuts.{places_end, predictors_end, cut_tests}
 use Rattle.listing.specs.Printed.{text_of, printed_parts}
@@ -54,11 +53,11 @@ module _ (h : Head) (parts : List ℕ) where
   job_whole e = sym (ruled_pass refused_text whole e)
 
 -- the text of an input, of the header that was read and the bytes behind it
-pub refused_input : (input : List ℕ) (r : Refusal) (number : ℕ) → header_of input ≡ Refused r → number ≡ refusal_number r → refused_line number ≡ printed_parts input
+pub refused_input : (input : List ℕ) (r : Refusal) (number : ℕ) → header_of input ≡ Err r → number ≡ refusal_number r → refused_line number ≡ printed_parts input
 unfolding printed_parts
 refused_input input r number e i = ap refused_line i ∙ sym (ap (λ (z : Header). text_of z (drop 40 input)) e)
 
-pub whole_input : (input : List ℕ) (h : Head) → header_of input ≡ Whole h → job_text h (take (length input - 40) (drop 40 input)) ≡ printed_parts input
+pub whole_input : (input : List ℕ) (h : Head) → header_of input ≡ Ok h → job_text h (take (length input - 40) (drop 40 input)) ≡ printed_parts input
 unfolding printed_parts
 whole_input input h e =
     ap (job_text h) (take_all (length input - 40) (drop 40 input) (omega (arith, length-drop 40 input))) ∙ sym (ap (λ (z : Header). text_of z (drop 40 input)) e)

@@ -8,7 +8,7 @@ ghost use Rattle.listing.specs.Jobs.{answer_text, whole_text, job_text};
 ghost use Rattle.header.specs.Cuts.{responses_end};
 ghost use Rattle.listing.specs.Printed.{printed};
 
-use header::{Head, Header};
+use header::Head;
 
 // The text of a fit that answered so, with n rows of `width` numbers.
 fn print_answer(
@@ -74,9 +74,8 @@ pub fn print_input(input: &[u8], text: &mut [u8]) -> usize
     requires { 102400 ≤ length text.old }
     ensures { WrittenText text.old 0 (printed input.now) text.new result }
 {
-    let header = header::header_of(input);
-    match header {
-        Header::Refused(r) => text::put_refused(text, r.number()),
-        Header::Whole(h) => print_job(h, &input[40..], text),
+    match header::header_of(input) {
+        Err(r) => text::put_refused(text, r.number()),
+        Ok(h) => print_job(h, &input[40..], text),
     }
 }

@@ -18,8 +18,6 @@ use criterion::Summary;
 use gwr::FitAnswer;
 use kernel::GwrKernel;
 use neighbours::{Own, Walker};
-use refusal::Refusal;
-use request::Choice;
 use setup::{GwrBandwidth, GwrCriterion, GwrOptions};
 use stepping::Job;
 use sweep::Finish;
@@ -48,16 +46,15 @@ pub extern "C" fn zescolumba_exponentials(values: &mut [f64])
     mapped::exponentials(values);
 }
 
+#[tactic(auto, unfolding(crate::specs::Turns::kernel_by))]
 fn kernel_by(number: u32) -> GwrKernel
     ensures { result ≡ kernel_by number }
 {
-    if number == 0 {
-        return GwrKernel::Gaussian;
+    match number {
+        0 => GwrKernel::Gaussian,
+        1 => GwrKernel::Bisquare,
+        _ => GwrKernel::Exponential,
     }
-    if number == 1 {
-        return GwrKernel::Bisquare;
-    }
-    GwrKernel::Exponential
 }
 
 // The job after so many turns of one allowance.
@@ -103,13 +100,11 @@ pub extern "C" fn zescolumba_turns(
     last.solves
 }
 
+#[tactic(auto, unfolding(crate::specs::Walks::own_by))]
 fn own_by(i: usize, n: usize) -> Own
     ensures { result ≡ own_by i n }
 {
-    if i < n {
-        return Own::At(i);
-    }
-    Own::Nobody
+    if i < n { Own::At(i) } else { Own::Nobody }
 }
 
 // The sum in place `at` of a walk, 0 where there is none.
@@ -190,13 +185,14 @@ pub extern "C" fn zescolumba_walk(
     0
 }
 
+#[tactic(auto, unfolding(crate::specs::Fits::criterion_by))]
 fn criterion_by(number: u32) -> GwrCriterion
     ensures { result ≡ criterion_by number }
 {
-    if number == 0 {
-        return GwrCriterion::Unguarded;
+    match number {
+        0 => GwrCriterion::Unguarded,
+        _ => GwrCriterion::Guarded,
     }
-    GwrCriterion::Guarded
 }
 
 // The number, beside what a summary reports and how many rows were written.
@@ -261,10 +257,9 @@ pub extern "C" fn zescolumba_fit_judged(
 ) -> u32
     ensures { ((result, (reals.new, counts.new)), out.new) ≡ judged_fit (trusted_data coords.now x.now y.now trust.now) p kernel kind bandwidth criterion out.old reals.old counts.old }
 {
-    let choice = request::options_of(kernel, kind, bandwidth);
-    match choice {
-        Choice::Unknown => Refusal::UnknownNumber.number(),
-        Choice::Known(o) => {
+    match request::options_of(kernel, kind, bandwidth) {
+        Err(r) => r.number(),
+        Ok(o) => {
             let options = o.judged_by(criterion_by(criterion));
             fit_seen(coords, x, y, trust, p, options, out, reals, counts)
         }

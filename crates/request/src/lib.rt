@@ -3,76 +3,35 @@
 
 ghost use Rattle.std.specs.Prelude.{◌≡◌, ◌*◌, ◌/◌, ◌≤◌, ◌<◌};
 ghost use Rattle.checks.specs.Judge.{judge};
-ghost use Rattle.request.specs.Options.{kernel_of, kind_of, chosen_of, options_of};
+ghost use Rattle.request.specs.Options.{kind_of, options_of};
 ghost use Rattle.request.specs.Lengths.{part_tests, byte_tests};
 
 use kernel::GwrKernel;
 use refusal::Refusal;
 use setup::{GwrBandwidth, GwrOptions};
 
-// Options from their numbers, of which 18 refuses the unknown.
-#[derive(Clone, Copy)]
-pub enum Choice {
-    Known(GwrOptions),
-    Unknown,
-}
-
-#[derive(Clone, Copy)]
-pub enum KernelChoice {
-    Known(GwrKernel),
-    Unknown,
-}
-
-// The kernel of a number: 0, 1 and 2 are known.
-pub fn kernel_of(number: u64) -> KernelChoice
-    ensures { result ≡ kernel_of number }
-{
-    if number == 0 {
-        return KernelChoice::Known(GwrKernel::Gaussian);
-    }
-    if number == 1 {
-        return KernelChoice::Known(GwrKernel::Bisquare);
-    }
-    if number == 2 {
-        return KernelChoice::Known(GwrKernel::Exponential);
-    }
-    KernelChoice::Unknown
-}
-
-fn chosen_of(kernel: GwrKernel, bandwidth: GwrBandwidth, optimize_bandwidth: bool) -> Choice
-    ensures { result ≡ chosen_of kernel bandwidth optimize_bandwidth }
-{
-    Choice::Known(GwrOptions::unguarded(kernel, bandwidth, optimize_bandwidth))
-}
-
 // Kind 0 is a distance and 1 a count; 2 and 3 are the same, searched.
-fn kind_of(kernel: GwrKernel, kind: u64, bandwidth: u64) -> Choice
+#[tactic(auto, unfolding(crate::specs::Options::kind_of))]
+fn kind_of(kernel: GwrKernel, kind: u64, bandwidth: u64) -> Result<GwrOptions, Refusal>
     ensures { result ≡ kind_of kernel kind bandwidth }
 {
-    if kind == 0 {
-        return chosen_of(kernel, GwrBandwidth::Fixed(wire::real_of(bandwidth)), false);
+    let distance = GwrBandwidth::Fixed(wire::real_of(bandwidth));
+    let count = GwrBandwidth::AdaptiveKnn(bandwidth as usize);
+    match kind {
+        0 => Ok(GwrOptions::unguarded(kernel, distance, false)),
+        1 => Ok(GwrOptions::unguarded(kernel, count, false)),
+        2 => Ok(GwrOptions::unguarded(kernel, distance, true)),
+        3 => Ok(GwrOptions::unguarded(kernel, count, true)),
+        _ => Err(Refusal::UnknownNumber),
     }
-    if kind == 1 {
-        return chosen_of(kernel, GwrBandwidth::AdaptiveKnn(bandwidth as usize), false);
-    }
-    if kind == 2 {
-        return chosen_of(kernel, GwrBandwidth::Fixed(wire::real_of(bandwidth)), true);
-    }
-    if kind == 3 {
-        return chosen_of(kernel, GwrBandwidth::AdaptiveKnn(bandwidth as usize), true);
-    }
-    Choice::Unknown
 }
 
-// The options of the numbers of kernel and kind, and of the bandwidth's bits or count.
-pub fn options_of(kernel: u64, kind: u64, bandwidth: u64) -> Choice
+// The options of the numbers of kernel and kind, and of the bandwidth's bits or count; 18 refuses an unknown number.
+pub fn options_of(kernel: u64, kind: u64, bandwidth: u64) -> Result<GwrOptions, Refusal>
     ensures { result ≡ options_of kernel kind bandwidth }
 {
-    let known = kernel_of(kernel);
-    match known {
-        KernelChoice::Known(k) => kind_of(k, kind, bandwidth),
-        KernelChoice::Unknown => Choice::Unknown,
-    }
+    let kernel = GwrKernel::try_from(kernel)?;
+    kind_of(kernel, kind, bandwidth)
 }
 
 // Refusals 5 and 6 of byte lengths.

@@ -6,16 +6,17 @@ use Rattle.request.proofs.Lengths.{passed}
 use Rattle.calls.proofs.fit_bytes.Goals as goal
 
 pub fit_parts-requires : goal.fit_parts-requires
-fit_parts-requires c = passed _ _ _ _ (sym c.check_bytes.ensures ∙ c.in-Ok.is)
-
-pub returns-in-Unknown : goal.returns-in-Unknown
-returns-in-Unknown c =
-    triple c.number.ensures refl refl ∙ sym (call_unknown _ _ _ _ _ _ _ _ _ (sym c.options_of-choice.ensures ∙ c.in-Unknown.is))
+fit_parts-requires c = passed _ _ _ _ (sym c.check_bytes.ensures ∙ c.in-Ok-check_bytes.is)
 
 pub returns-in-Err : goal.returns-in-Err
 returns-in-Err c =
-    triple c.number-in-Err.ensures refl refl ∙ sym (call_bytes _ _ _ _ _ _ _ _ _ _ _ (sym c.options_of-choice.ensures ∙ c.in-Known.is) (sym c.check_bytes.ensures ∙ c.in-Err.is))
+    triple c.number.ensures refl refl ∙ sym (call_unknown _ _ _ _ _ _ _ _ _ (sym c.options_of.ensures ∙ c.in-Err.is))
 
-pub returns-in-Ok : goal.returns-in-Ok
-returns-in-Ok c =
-    c.fit_parts.ensures ∙ sym (call_parts _ _ _ _ _ _ _ _ _ _ (sym c.options_of-choice.ensures ∙ c.in-Known.is) (sym c.check_bytes.ensures ∙ c.in-Ok.is))
+pub returns-in-Err-check_bytes : goal.returns-in-Err-check_bytes
+returns-in-Err-check_bytes c =
+    triple c.number-in-Err-check_bytes.ensures refl refl
+    ∙ sym (call_bytes _ _ _ _ _ _ _ _ _ _ _ (sym c.options_of.ensures ∙ c.in-Ok.is) (sym c.check_bytes.ensures ∙ c.in-Err-check_bytes.is))
+
+pub returns-in-Ok-check_bytes : goal.returns-in-Ok-check_bytes
+returns-in-Ok-check_bytes c =
+    c.fit_parts.ensures ∙ sym (call_parts _ _ _ _ _ _ _ _ _ _ (sym c.options_of.ensures ∙ c.in-Ok.is) (sym c.check_bytes.ensures ∙ c.in-Ok-check_bytes.is))

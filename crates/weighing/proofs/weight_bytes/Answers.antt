@@ -4,10 +4,10 @@ use Rattle.weighing.proofs.Judged.{both}
 use Rattle.weighing.proofs.Judged.{weight_unknown, weight_weighed}
 use Rattle.weighing.proofs.weight_bytes.Goals as goal
 
-pub returns-in-Unknown : goal.returns-in-Unknown
-returns-in-Unknown c =
-    both c.number.ensures refl ∙ sym (weight_unknown _ _ _ _ (sym c.kernel_of-known.ensures ∙ c.in-Unknown.is))
+pub returns-in-Err : goal.returns-in-Err
+returns-in-Err c =
+    both c.number.ensures refl ∙ sym (weight_unknown _ _ _ _ (sym c.try_from.ensures ∙ c.in-Err.is))
 
-pub returns-in-Known : goal.returns-in-Known
-returns-in-Known c =
-    c.weighed_bytes.ensures ∙ weight_weighed _ _ _ _ _ _ _ _ (sym c.kernel_of-known.ensures ∙ c.in-Known.is) c.real_of.ensures c.real_of-in-Known.ensures c.weigh_distance-weighed.ensures
+pub returns-in-Ok : goal.returns-in-Ok
+returns-in-Ok c =
+    c.weighed_bytes.ensures ∙ weight_weighed _ _ _ _ _ _ _ _ (sym c.try_from.ensures ∙ c.in-Ok.is) c.real_of.ensures c.real_of-in-Ok.ensures c.weigh_distance-weighed.ensures
