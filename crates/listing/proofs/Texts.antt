@@ -12,8 +12,9 @@ use Rattle.text.specs.Listing.{refused_line, listing, rows_of, WrittenText}
 use Rattle.refusal.proofs.Range.{numbered}
 use Rattle.refusal.specs.Numbers.{refusal_number}
 use Rattle.refusal.specs.declared.Refusal.{Refusal}
-use Rattle.checks.specs.Judge.{FirstOf, NoneOf}
+use Rattle.checks.specs.Judge.{Check, FirstOf, NoneOf}
 use Rattle.checks.proofs.Judge.{ruled_refused, ruled_pass}
+use Rattle.request.specs.Answer.{answer_number}
 use Rattle.calls.specs.Calls.{AfterCall, fit_bytes}
 use Rattle.calls.proofs.Counts.{Answered, answered}
 use Rattle.header.specs.declared.Head.{Head}
@@ -31,6 +32,12 @@ number_small r n e = omega (arith, (numbered r).most, e)
 pub refused_text_lem : (a : AfterCall) (n width : ℕ) → 0 < a.0 → refused_line a.0 ≡ answer_text a n width
 unfolding answer_text
 refused_text_lem a n width h = rw (lt-ltb 0 a.0 h)
+
+pub refused_answer : (answer : Check) (r : Refusal) (number : ℕ) (out summary : List ℕ) (n width : ℕ) → answer ≡ Err r → number ≡ refusal_number r → refused_line number ≡ answer_text (answer_number answer, (out, summary)) n width
+refused_answer answer r number out summary n width e i =
+    ap refused_line i
+    ∙ refused_text_lem (refusal_number r, (out, summary)) n width (numbered r).some
+    ∙ sym (ap (λ (z : Check). answer_text (answer_number z, (out, summary)) n width) e)
 
 pub listing_text : (a : AfterCall) (n width : ℕ) → a.0 ≤ 0 → listing (load_of a.1.1 0) (load_of a.1.1 8) (load_of a.1.1 16) (rows_of a.1.0 width n) ≡ answer_text a n width
 unfolding answer_text

@@ -1,8 +1,9 @@
-// What a call asks for: options from their numbers, and byte lengths.
+// What a call asks for, options from their numbers and byte lengths, and the number that it answers.
 #![tactic(auto)]
 
 ghost use Rattle.std.specs.Prelude.{◌≡◌, ◌*◌, ◌/◌, ◌≤◌, ◌<◌};
 ghost use Rattle.checks.specs.Judge.{judge};
+ghost use Rattle.request.specs.Answer.{answer_number};
 ghost use Rattle.request.specs.Options.{kind_of, options_of};
 ghost use Rattle.request.specs.Lengths.{part_tests, byte_tests};
 
@@ -66,4 +67,14 @@ pub fn check_bytes(coords: usize, x: usize, y: usize, p: u64) -> Result<(), Refu
         return Err(Refusal::TooManyPredictors);
     }
     check_part_bytes(x, y, n, p as usize)
+}
+
+// The number of an answer, for the C interface: 0 where nothing is refused.
+pub fn answer_number(answer: Result<(), Refusal>) -> u32
+    ensures { result ≡ answer_number answer }
+{
+    match answer {
+        Ok(()) => 0,
+        Err(r) => r.number(),
+    }
 }

@@ -12,4 +12,4 @@ returns-in-Some c =
 
 pub returns-in-None : goal.returns-in-None
 returns-in-None c =
-    placed_is _ _ _ _ c.in-None.is (both c.number.ensures (c.store-in-None.ensures ∙ front_placed _ _))
+    placed_is _ _ _ _ c.in-None.is (both refl (c.store-in-None.ensures ∙ front_placed _ _))
