@@ -6,6 +6,7 @@ use native.Mathlib.Omega.{arith}
 use lib.ListN.{length, take, drop, replicate, length-append}
 use lib.Seq.{take_all}
 use lib.Ieee.{Float}
+use Rattle.std.specs.Prelude.{Ok, Err}
 use Rattle.real.specs.Reals.{zero64}
 use Rattle.wire.specs.Wire.{bits_of, bytes_of, load_of, placed}
 use Rattle.wire.proofs.Numbers.{length_bytes_of, load_stored}
@@ -13,9 +14,7 @@ use Rattle.refusal.proofs.Range.{most_number, numbered}
 use Rattle.refusal.specs.declared.Refusal.{Refusal}
 use Rattle.criterion.specs.declared.Summary.{Summary}
 use Rattle.setup.specs.declared.GwrOptions.{GwrOptions}
-use Rattle.checks.specs.declared.Check.{Check}
-use Rattle.checks.specs.declared.Check.TheVariants as check
-use Rattle.checks.specs.Judge.{judge, ruled}
+use Rattle.checks.specs.Judge.{Check, judge, ruled}
 use Rattle.sweep.specs.declared.Finish.TheVariants.{Fitted, Failed}
 use Rattle.gwr.specs.declared.FitAnswer.{FitAnswer}
 use Rattle.gwr.specs.declared.FitAnswer.TheVariants.{Done, Rejected}
@@ -72,5 +71,5 @@ answered coords x y p kernel kind bandwidth out summary = go (judge (call_tests 
     o = named (options_of kernel kind bandwidth)
 
     go : (k : Check) → Answered (ruled k (λ (r : Refusal). refused_call r out summary) (fitted_bytes p (numbers_fit coords x y p o) out summary))
-    go check.Pass = answered_fit coords x y p o out summary
-    go (check.Refused r) = answered_refused r out summary
+    go (Ok passed) = answered_fit coords x y p o out summary
+    go (Err r) = answered_refused r out summary

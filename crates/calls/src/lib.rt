@@ -4,15 +4,14 @@
 ghost use Rattle.std.specs.Prelude.{◌≡◌, ◌+◌, ◌*◌, ◌/◌, ◌≤◌, ◌<◌, length, take};
 ghost use Rattle.wire.specs.Wire.{real_bytes, placed};
 ghost use Rattle.calls.specs.Calls.{room_of, summary_bytes, answer_bytes, fitted_bytes, fit_parts, fit_bytes, Roomy, Offered};
+ghost use Rattle.request.specs.Answer.{answer_number};
 ghost use Rattle.request.specs.Lengths.{ByteLengths};
 ghost use Rattle.setup.specs.Data.{trusting};
 ghost use Rattle.gwr.specs.Fit.{gwr_fit};
 
-use checks::Check;
 use criterion::Summary;
 use gwr::FitAnswer;
 use refusal::Refusal;
-use request::Choice;
 use setup::GwrOptions;
 use sweep::Finish;
 
@@ -47,29 +46,29 @@ fn store_rows(rows: &[f64], count: usize, out: &mut [u8])
     wire::encode(rows, out, count);
 }
 
-// An answer's number; rows and summary go out as bytes, unless the input was refused.
+// What an answer refuses; rows and summary go out as bytes, unless the input was refused.
 fn answer_bytes(
     answer: FitAnswer,
     rows: &[f64],
     count: usize,
     out: &mut [u8],
     summary: &mut [u8],
-) -> u32
+) -> Result<(), Refusal>
     requires { Roomy answer count (length rows.now) (length out.old) (length summary.old) }
-    ensures { (result, (out.new, summary.new)) ≡ answer_bytes answer (take count rows.now) out.old summary.old }
+    ensures { (answer_number result, (out.new, summary.new)) ≡ answer_bytes answer (take count rows.now) out.old summary.old }
 {
     match answer {
-        FitAnswer::Rejected(r) => r.number(),
+        FitAnswer::Rejected(r) => Err(r),
         FitAnswer::Done(finish) => match finish {
             Finish::Failed(r, v) => {
                 store_rows(rows, count, out);
                 store_summary(summary, v);
-                r.number()
+                Err(r)
             }
             Finish::Fitted(v) => {
                 store_rows(rows, count, out);
                 store_summary(summary, v);
-                0
+                Ok(())
             }
         },
     }
@@ -85,10 +84,10 @@ fn fitted_bytes(
     rows: &mut [f64],
     out: &mut [u8],
     summary: &mut [u8],
-) -> u32
+) -> Result<(), Refusal>
     requires few { length responses.now ≤ 512 }
     requires offered { (p ≤ 7) × Offered (length rows.old) (length out.old) (length summary.old) }
-    ensures { (result, (out.new, summary.new)) ≡ fitted_bytes p (gwr_fit (trusting places.now predictors.now responses.now) p options rows.old) out.old summary.old }
+    ensures { (answer_number result, (out.new, summary.new)) ≡ fitted_bytes p (gwr_fit (trusting places.now predictors.now responses.now) p options rows.old) out.old summary.old }
 {
     let ones = [1.0; 512];
     let trust = &ones[..responses.len()];
@@ -106,9 +105,9 @@ fn fit_parts(
     options: GwrOptions,
     out: &mut [u8],
     summary: &mut [u8],
-) -> u32
+) -> Result<(), Refusal>
     requires { ByteLengths (length coords.now) (length x.now) (length y.now) p }
-    ensures { (result, (out.new, summary.new)) ≡ fit_parts coords.now x.now y.now p options out.old summary.old }
+    ensures { (answer_number result, (out.new, summary.new)) ≡ fit_parts coords.now x.now y.now p options out.old summary.old }
 {
     let n = coords.len() / 16;
     let mut places = [0.0; 1024];
@@ -131,7 +130,7 @@ fn fit_parts(
     )
 }
 
-// The fit call: coordinates, predictors and responses as bytes, rows and summary to the bytes lent. Answers the refusal's number, 0 for none.
+// The fit call: coordinates, predictors and responses as bytes, rows and summary to the bytes lent.
 pub fn fit_bytes(
     coords: &[u8],
     x: &[u8],
@@ -142,18 +141,10 @@ pub fn fit_bytes(
     bandwidth: u64,
     out: &mut [u8],
     summary: &mut [u8],
-) -> u32
-    ensures { (result, (out.new, summary.new)) ≡ fit_bytes coords.now x.now y.now p kernel kind bandwidth out.old summary.old }
+) -> Result<(), Refusal>
+    ensures { (answer_number result, (out.new, summary.new)) ≡ fit_bytes coords.now x.now y.now p kernel kind bandwidth out.old summary.old }
 {
-    let choice = request::options_of(kernel, kind, bandwidth);
-    match choice {
-        Choice::Unknown => Refusal::UnknownNumber.number(),
-        Choice::Known(options) => {
-            let check = request::check_bytes(coords.len(), x.len(), y.len(), p);
-            match check {
-                Check::Refused(r) => r.number(),
-                Check::Pass => fit_parts(coords, x, y, p as usize, options, out, summary),
-            }
-        }
-    }
+    let options = request::options_of(kernel, kind, bandwidth)?;
+    request::check_bytes(coords.len(), x.len(), y.len(), p)?;
+    fit_parts(coords, x, y, p as usize, options, out, summary)
 }

@@ -6,7 +6,7 @@ use Prim.Native.Nat.{ℕ, ◌+◌}
 use native.Mathlib.Omega.{arith}
 use lib.ListN.{length}
 use lib.Ieee.{Float}
-use Rattle.checks.specs.declared.Check.TheVariants as check
+use Rattle.std.specs.Prelude.{Ok, Err}
 use Rattle.local.specs.declared.Outcome.TheVariants as outcome
 use Rattle.claims.specs.Words.{Row, ruled, judge, NoneOf, Check, GwrKernel, GwrCriterion, GwrBandwidth, AdaptiveKnn, Setup, Data, setup_of, resolve_count, weight_from, weights_from, normal_step, equations_of, eliminated_of, coefficients_under, fit_coefficients, squares_step, sum_squares, local_r_squared, values_at, solve_local, solve_location, Outcome, Solved, corrected_aic, Criterion, unusable_given, seeks_distance, nothing_between, option_tests_at, fit_tests, resolve_initial_bandwidth, plan_at, accepted, accept_of, Acceptance, Settled, row_found, after_solve, visit_at, visit, fit_all_locations, ending_at, Course, Going, Stopped, Sweep, Swept, solves_of, finish_of, answered, fit_from, final_of, gwr_fit}
 use Rattle.claims.specs.DemandTwo.{by_count}
@@ -56,8 +56,8 @@ module _ (d : Data) (c : GwrCriterion) (kernel : GwrKernel) (n p j k : ℕ) (b :
 
   answered_blind : (c : Check) (out : List Float) → answered (accepted c (Settled b)) u d out ≡ answered (accepted c (Settled b)) v d out
   unfolding ruled
-  answered_blind check.Pass out = final_blind out
-  answered_blind (check.Refused r) out = refl
+  answered_blind (Ok passed) out = final_blind out
+  answered_blind (Err r) out = refl
 
 -- ---- and the plan of a count is that of what it becomes
 

@@ -6,11 +6,10 @@ use native.Mathlib.Omega.{arith}
 use borrow.Author.Tests.{eq-eqb, le-ltb}
 use lib.ListN.{length}
 use lib.Ieee.{Float}
-use Rattle.checks.specs.declared.Check.TheVariants as check
+use Rattle.std.specs.Prelude.{Ok, Err}
 use Rattle.claims.specs.Words.{judge, GwrBandwidth, Fixed, AdaptiveKnn, GwrOptions, Setup, Data, trust_count, setup_of, Sized, Bracket, Plan, Acceptance, value_tests, output_tests, lengths_fit, plan_of, accept_of, planned, answered, gwr_fit, Stage, First, Final, Job, fresh_job, OfKind, TrialsAt, Sound, start_job, begun_with, begin_of, lent_tests}
 use Rattle.claims.proofs.Laws.{Serves, accept_planned, Accepted, kind_at, Holds}
 use Rattle.plan.specs.declared.Plan.TheVariants as plan
-use Rattle.plan.specs.declared.Acceptance.TheVariants as acceptance
 use Rattle.std.specs.Prelude.{Result, Ok, Err}
 use Rattle.refusal.specs.declared.Refusal.{Refusal}
 
@@ -43,16 +42,16 @@ module _ (d : Data) (p : ℕ) (o : GwrOptions) (out : List Float) where
   -- the input was accepted, job and fit are those of the plan, and the state that beginning gives holds
   pub record Started (j : Job) : Type 0 where
     pub accepted : Accepted d p o (length out)
-    pub plan : accept_of d p o (length out) ≡ acceptance.Planned own
+    pub plan : accept_of d p o (length out) ≡ Ok own
     pub job : j ≡ start_job u own
     pub fit : gwr_fit d p o out ≡ planned own u d out
     pub holds : Holds u (length out) (j, out)
 
-  with_plan : (q : Plan) (j : Job) → accept_of d p o (length out) ≡ acceptance.Planned q → ◌≡◌ {A = Result Job Refusal} (Ok (start_job u q)) (Ok j) → Started j
+  with_plan : (q : Plan) (j : Job) → accept_of d p o (length out) ≡ Ok q → ◌≡◌ {A = Result Job Refusal} (Ok (start_job u q)) (Ok j) → Started j
   unfolding gwr_fit
   with_plan q j e h =
       let s = accept_planned d p o (length out) e in
-      let i : accept_of d p o (length out) ≡ acceptance.Planned own = e ∙ ap acceptance.Planned s.is in
+      let i : accept_of d p o (length out) ≡ Ok own = e ∙ ap Ok s.is in
       let made : start_job u q ≡ j = cc in
       let job : j ≡ start_job u own = sym made ∙ ap (start_job u) s.is in
       record {
@@ -70,11 +69,11 @@ module _ (d : Data) (p : ℕ) (o : GwrOptions) (out : List Float) where
   started j h = go (accept_of d p o (length out)) refl h
     where
       go : (a : Acceptance) → accept_of d p o (length out) ≡ a → begun_with a u ≡ Ok j → Started j
-      go (acceptance.Refused r) e h = let z : ◌≡◌ {A = ℕ} 0 1 = cc in absurd (omega arith)
-      go (acceptance.Planned q) e h = with_plan q j e h
+      go (Err r) e h = let z : ◌≡◌ {A = ℕ} 0 1 = cc in absurd (omega arith)
+      go (Ok q) e h = with_plan q j e h
 
   -- ---- what is lent
-  pub lent_passes : Accepted d p o (length out) → judge (lent_tests u d (length out)) ≡ check.Pass
+  pub lent_passes : Accepted d p o (length out) → judge (lent_tests u d (length out)) ≡ Ok tt
   unfolding judge lent_tests lengths_fit value_tests output_tests
   lent_passes a =
       let s = a.shaped in

@@ -7,7 +7,7 @@ use native.Mathlib.Omega.{arith}
 use lib.ListN.{length, replicate, length-replicate}
 use lib.Ieee.{Float, le, of_bits}
 use borrow.Author.Tests.{not-false}
-use Rattle.checks.specs.declared.Check.TheVariants as check
+use Rattle.std.specs.Prelude.{Ok, Err}
 use Rattle.claims.specs.Words.{one64, all_of, all_in_unit, Refusal, judge, ruled, NoneOf, Check, GwrBandwidth, GwrOptions, Setup, Data, data_of, trusting, setup_of, lengths_fit, value_tests, input_tests, fit_tests, Plan, Settled, Sought, Acceptance, plan_of, accepted, accept_of, bandwidth_at, Solved, solve_local, solve_location, Course, Going, Stopped, Swept, after_solve, row_after, visit_at, visit, fit_all_locations, Trial, trial_from, trial_of, Search, Optimum, scored_of, round_with, optimum_of, Bracket, start_of, aim_of, round_of, opened_of, golden_of, optimize_bandwidth, final_of, sought_of, planned, answered, gwr_fit, Job, step_job, step_out, step_of, is_over, is_final, after_outcome, run, begun_with, begin_of, lent_tests, turn_tests, refused_turn, ran_of, run_of, turn_of, fit_from}
 use Rattle.claims.proofs.Laws.{related, none_append, none_head, ones_weights, fit_blind, values_blind, input_accepted, step_setup, lengths_fit_means}
 
@@ -99,8 +99,8 @@ module _ (coords x y : List Float) where
 
     answered_alike : (out : List Float) (k : Check) → judge (fit_tests e p o (length out)) ≡ k → answered (accepted k (plan_of u e)) u d out ≡ answered (accepted k (plan_of u e)) u e out
     unfolding ruled
-    answered_alike out (check.Refused r) h = refl
-    answered_alike out check.Pass h =
+    answered_alike out (Err r) h = refl
+    answered_alike out (Ok passed) h =
         planned_alike u d e (solve_trusting u (input_accepted e p (length out) o (none_append (input_tests e p (length out)) _ h).0).shaped.answers) (plan_of u e) out
 
     pub fit_trusting : (out : List Float) → gwr_fit d p o out ≡ gwr_fit e p o out
@@ -127,8 +127,8 @@ module _ (coords x y : List Float) where
 
     ruled_alike : (k : Check) → judge (turn_tests j e (length out)) ≡ k → ruled k (refused_turn j out) (run_of j d out a) ≡ ruled k (refused_turn j out) (run_of j e out a)
     unfolding ruled run_of
-    ruled_alike (check.Refused r) h = refl
-    ruled_alike check.Pass h = ap ran_of (run_alike a (j, out) (long_as h))
+    ruled_alike (Err r) h = refl
+    ruled_alike (Ok passed) h = ap ran_of (run_alike a (j, out) (long_as h))
 
     pub turn_trusting : turn_of j d out a ≡ turn_of j e out a
     unfolding turn_of

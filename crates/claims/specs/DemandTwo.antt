@@ -1,7 +1,7 @@
 -- Demand 2: document 01 sets the steps of exp and ln and adds limits; else the Rust rules. Kernels, golden section, AICc and square root are held against their published definitions, the listed spots apart.
 -- Definitions only; proofs/DemandTwo proves it, each part by a theorem of the crate that has the definition.
 -- That the function `gwr_fit` equals the definition of its name, in every bit of its answer and its output and on every input, is its contract; the definition is 000's `gwr_fit` line by line, the default count apart, of unguarded jobs whose data ask for no trusts; with 02's line added of guarded ones, and with 02's product in each weight where there are trusts. Here is what it says beyond that.
-use Rattle.std.specs.Prelude.{Some, ℕ, ◌+◌, ◌-◌, ◌*◌, ◌/◌, ◌%◌, ◌^◌, ◌≤◌, ◌<◌, min, max, ◌≡◌, Bool, true, false, not, cond, T, pos, length, Float}
+use Rattle.std.specs.Prelude.{Some, ℕ, ◌+◌, ◌-◌, ◌*◌, ◌/◌, ◌%◌, ◌^◌, ◌≤◌, ◌<◌, min, max, ◌≡◌, Bool, true, false, not, cond, T, pos, length, Float, Ok}
 use mathlib.Core.List.{List, [], ◌∷◌, Permᴰ}
 use Rattle.std.specs.Float.{nan, inf, fin, binary64}
 use Rattle.std.specs.Float.Ieee.{mul, neg, lt, le, eq, fits, is_nan, to_bits}
@@ -12,7 +12,6 @@ use Rattle.local.specs.declared.Outcome.TheVariants as outcome
 use Rattle.criterion.specs.declared.Criterion.TheVariants as criterion
 use Rattle.golden.specs.Points as points
 use Rattle.plan.specs.declared.Plan.TheVariants as plan
-use Rattle.plan.specs.declared.Acceptance.TheVariants as acceptance
 
 -- options that ask for a count and no search
 abbrev pub by_count : GwrCriterion → GwrKernel → ℕ → GwrOptions
@@ -22,10 +21,10 @@ pub record DemandTwo : Type 1 where
   -- ---- golden section: 000's `golden_section_min` as it is written
 
   -- an unsearched fit, and a search with no trial, are a final fit at once
-  pub settled : (d : Data) (p : ℕ) (o : GwrOptions) (out : List Float) (b : GwrBandwidth) → accept_of d p o (length out) ≡ acceptance.Planned (plan.Settled b)
+  pub settled : (d : Data) (p : ℕ) (o : GwrOptions) (out : List Float) (b : GwrBandwidth) → accept_of d p o (length out) ≡ Ok (plan.Settled b)
       → gwr_fit d p o out ≡ final_of (setup_of d p o) d b 0 out
   -- a searched one is a final fit at the point that `golden_section_min` finds, after its solves
-  pub searched : (d : Data) (p : ℕ) (o : GwrOptions) (out : List Float) (lo hi : Float) → accept_of d p o (length out) ≡ acceptance.Planned (plan.Sought lo hi) →
+  pub searched : (d : Data) (p : ℕ) (o : GwrOptions) (out : List Float) (lo hi : Float) → accept_of d p o (length out) ≡ Ok (plan.Sought lo hi) →
       let u = setup_of d p o in
       let m = golden_section_min (trial_of u d) lo hi in
       gwr_fit d p o out ≡ final_of u d (bandwidth_at u m.0) m.1 out
@@ -43,9 +42,9 @@ pub record DemandTwo : Type 1 where
   -- and of G that is 38494044947129 / 2^98, below 2^-52; G2 - (1 - G) is 2^-53
   pub ratio_near : points.NearGolden
   -- an accepted job's search goes between finite numbers lo ≤ hi whose difference is finite
-  pub search_span : (d : Data) (p : ℕ) (o : GwrOptions) (out : List Float) (lo hi : Float) → accept_of d p o (length out) ≡ acceptance.Planned (plan.Sought lo hi) → Span lo hi
+  pub search_span : (d : Data) (p : ℕ) (o : GwrOptions) (out : List Float) (lo hi : Float) → accept_of d p o (length out) ≡ Ok (plan.Sought lo hi) → Span lo hi
   -- of any number of its rounds, every point tried lies from lo to hi, rounding included, and the answer is a point tried
-  pub points_inside : (d : Data) (p : ℕ) (o : GwrOptions) (out : List Float) (lo hi : Float) → accept_of d p o (length out) ≡ acceptance.Planned (plan.Sought lo hi)
+  pub points_inside : (d : Data) (p : ℕ) (o : GwrOptions) (out : List Float) (lo hi : Float) → accept_of d p o (length out) ≡ Ok (plan.Sought lo hi)
       → (s t : Float) (l : List Float) → SearchInside lo hi s t l
   -- as of every search between such numbers
   pub span_inside : {lo hi : Float} → Span lo hi → (s t : Float) (l : List Float) → SearchInside lo hi s t l

@@ -18,9 +18,8 @@ pub use Rattle.accuracy.specs.PowerSeries.{NearPowerSeries}
 pub use Rattle.refusal.specs.Numbers.{refusal_number}
 pub use Rattle.refusal.specs.declared.Refusal.{Refusal}
 pub use Rattle.refusal.specs.declared.Refusal.TheVariants.{WeightSumNotPositive, Singular, InverseNotFinite, CoefficientNotFinite, UnfitRecord, AlreadyEnded, LengthsDiffer, ResponseNotFinite, CoordinateNotFinite, PredictorNotFinite, TrustOutOfRange, OutputTooShort, DeviationNotFinite}
-pub use Rattle.checks.specs.Judge.{NoneOf, Decides, FirstOf, Means}
+pub use Rattle.checks.specs.Judge.{Check, NoneOf, Decides, FirstOf, Means}
 unfoldable pub use Rattle.checks.specs.Judge.{judge, ruled}
-pub use Rattle.checks.specs.declared.Check.{Check}
 pub use Rattle.kernel.specs.Published.{kernel_formula, exact_weight, power_of_e, plain_weight}
 pub use Rattle.kernel.specs.Weight.{FromZeroToOne}
 unfoldable pub use Rattle.kernel.specs.Weight.{squares_of, distance_of, weight_of, weighed, unusable}
@@ -69,10 +68,8 @@ unfoldable pub use Rattle.bounds.specs.Bounds.{bandwidth_at, farther_pair, farth
 pub use Rattle.input.specs.Checks.{fit_tests, trusts_fit}
 unfoldable pub use Rattle.input.specs.Checks.{shape_tests, input_tests, value_tests, output_tests, lengths_fit, unusable_given, seeks_distance, nothing_between, option_tests_at}
 pub use Rattle.input.specs.Conditions.{SomeNotFinite, BadTrust, UnusableGiven, NothingBetween}
-pub use Rattle.plan.specs.Plan.{plan_of, accepted}
+pub use Rattle.plan.specs.Plan.{Acceptance, plan_of, accepted}
 unfoldable pub use Rattle.plan.specs.Plan.{accept_of, resolve_initial_bandwidth, plan_at}
-pub use Rattle.plan.specs.declared.Acceptance.{Acceptance}
-pub use Rattle.plan.specs.declared.Acceptance.TheVariants.{Planned}
 pub use Rattle.plan.specs.declared.Plan.{Plan}
 pub use Rattle.plan.specs.declared.Plan.TheVariants.{Settled, Sought}
 pub use Rattle.sweep.specs.Finish.{finish_of}

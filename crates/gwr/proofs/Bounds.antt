@@ -7,6 +7,7 @@ use native.Mathlib.Nat.{mul-le-mul, mul-le-mul_right}
 use native.Mathlib.Omega.{arith}
 use lib.ListN.{length}
 use lib.Ieee.{Float}
+use Rattle.std.specs.Prelude.{Ok, Err}
 use Rattle.refusal.specs.declared.Refusal.{Refusal}
 use Rattle.setup.specs.declared.GwrBandwidth.{GwrBandwidth}
 use Rattle.setup.specs.declared.GwrOptions.{GwrOptions}
@@ -19,10 +20,8 @@ use Rattle.criterion.specs.Aicc.{corrected_aic}
 use Rattle.checks.specs.Judge.{Decides}
 use Rattle.plan.specs.declared.Plan.{Plan}
 use Rattle.plan.specs.declared.Plan.TheVariants.{Settled, Sought}
-use Rattle.plan.specs.declared.Acceptance.{Acceptance}
-use Rattle.plan.specs.declared.Acceptance.TheVariants.{Refused, Planned}
 use Rattle.input.specs.Checks.{fit_tests}
-use Rattle.plan.specs.Plan.{plan_of, accept_of}
+use Rattle.plan.specs.Plan.{Acceptance, plan_of, accept_of}
 use Rattle.plan.proofs.Planned.{accept_decides, accept_planned}
 use Rattle.input.proofs.Accepted.{Accepted}
 use Rattle.sweep.specs.declared.Course.{Course}
@@ -90,8 +89,8 @@ module _ (d : Data) (p : ℕ) (o : GwrOptions) (out : List Float) where
   fits = go (accept_of d p o (length out)) refl
     where
       go : (a : Acceptance) → accept_of d p o (length out) ≡ a → Fits u.n p (length out) (answered a u d out)
-      go (Refused r) e = record { rows = omega arith; long = refl; sound = tt }
-      go (Planned q) e = planned_fits q (accept_planned d p o (length out) e).accepted
+      go (Err r) e = record { rows = omega arith; long = refl; sound = tt }
+      go (Ok q) e = planned_fits q (accept_planned d p o (length out) e).accepted
 
   -- a refusal from the input writes nothing; every other input is fitted by its plan
   pub fit_decides : Decides (fit_tests d p o (length out)) (λ (r : Refusal). gwr_fit d p o out ≡ (record { answer = Rejected r; rows = 0 }, out)) (gwr_fit d p o out ≡ planned (plan_of u d) u d out)

@@ -6,6 +6,7 @@ use Prim.Native.Nat.{ℕ, ◌+◌, ◌≤◌}
 use native.Mathlib.Omega.{arith}
 use lib.ListN.{length}
 use lib.Ieee.{Float}
+use Rattle.std.specs.Prelude.{Ok}
 use Rattle.setup.specs.declared.GwrBandwidth.{GwrBandwidth}
 use Rattle.setup.specs.declared.GwrOptions.{GwrOptions}
 use Rattle.setup.specs.declared.Setup.{Setup}
@@ -13,9 +14,7 @@ use Rattle.setup.specs.Data.{Data}
 use Rattle.setup.specs.Shape.{setup_of}
 use Rattle.criterion.specs.declared.Criterion.{Criterion}
 use Rattle.plan.specs.declared.Plan.{Plan}
-use Rattle.plan.specs.declared.Acceptance.{Acceptance}
-use Rattle.plan.specs.declared.Acceptance.TheVariants.{Planned}
-use Rattle.plan.specs.Plan.{accept_of}
+use Rattle.plan.specs.Plan.{Acceptance, accept_of}
 use Rattle.sweep.specs.declared.Finish.{Finish}
 use Rattle.sweep.specs.declared.Swept.{Swept}
 use Rattle.sweep.specs.Sweep.{fit_all_locations, solves_of, ending_of}
@@ -54,5 +53,5 @@ module _ (d : Data) (p : ℕ) (o : GwrOptions) (out : List Float) where
   unfolding gwr_fit
   fit_is a r e h = h ∙ sym (ap (λ (z : Acceptance). answered z (setup_of d p o) d out) e)
 
-  pub planned_is : (q s : Plan) (r : Fit × List Float) → accept_of d p o (length out) ≡ Planned q → q ≡ s → r ≡ planned s (setup_of d p o) d out → r ≡ gwr_fit d p o out
-  planned_is q s r e f h = fit_is (Planned q) r e (h ∙ sym (ap (λ (z : Plan). planned z (setup_of d p o) d out) f))
+  pub planned_is : (q s : Plan) (r : Fit × List Float) → accept_of d p o (length out) ≡ Ok q → q ≡ s → r ≡ planned s (setup_of d p o) d out → r ≡ gwr_fit d p o out
+  planned_is q s r e f h = fit_is (Ok q) r e (h ∙ sym (ap (λ (z : Plan). planned z (setup_of d p o) d out) f))

@@ -1,5 +1,5 @@
 -- The uninterrupted fit: 000's `gwr_fit`, from options and data alone. Definitions only.
-use Rattle.std.specs.Prelude.{ℕ, ◌+◌, true, List, length, Float}
+use Rattle.std.specs.Prelude.{ℕ, ◌+◌, true, List, length, Float, Ok, Err}
 use Rattle.setup.specs.declared.GwrBandwidth.{GwrBandwidth}
 use Rattle.setup.specs.declared.GwrOptions.{GwrOptions}
 use Rattle.setup.specs.declared.Setup.{Setup}
@@ -7,9 +7,7 @@ use Rattle.setup.specs.Data.{Data}
 use Rattle.setup.specs.Shape.{setup_of}
 use Rattle.plan.specs.declared.Plan.{Plan}
 use Rattle.plan.specs.declared.Plan.TheVariants.{Settled, Sought}
-use Rattle.plan.specs.declared.Acceptance.{Acceptance}
-use Rattle.plan.specs.declared.Acceptance.TheVariants.{Refused, Planned}
-use Rattle.plan.specs.Plan.{accept_of}
+use Rattle.plan.specs.Plan.{Acceptance, accept_of}
 use Rattle.sweep.specs.declared.Swept.{Swept}
 use Rattle.sweep.specs.Sweep.{fit_all_locations, solves_of, ending_of}
 use Rattle.sweep.specs.Finish.{finish_of}
@@ -40,8 +38,8 @@ planned (Sought lo hi) u d out = sought_of u d lo hi out
 
 -- a refusal from the input writes nothing
 abbrev pub answered : Acceptance → Setup → Data → List Float → Fit × List Float
-answered (Refused r) u d out = (record { answer = Rejected r; rows = 0 }, out)
-answered (Planned q) u d out = planned q u d out
+answered (Err r) u d out = (record { answer = Rejected r; rows = 0 }, out)
+answered (Ok q) u d out = planned q u d out
 
 -- 000's `gwr_fit`: the answer and the output
 unfoldable pub gwr_fit : Data → ℕ → GwrOptions → List Float → Fit × List Float

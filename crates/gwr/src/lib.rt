@@ -8,7 +8,7 @@ ghost use Rattle.setup.specs.Shape.{Shaped};
 ghost use Rattle.sweep.specs.Sweep.{RoomFor};
 ghost use Rattle.gwr.specs.Fit.{final_of, sought_of, gwr_fit};
 
-use plan::{Acceptance, Plan};
+use plan::Plan;
 use refusal::Refusal;
 use setup::{GwrBandwidth, GwrOptions, Setup};
 use sweep::Finish;
@@ -88,15 +88,12 @@ pub fn gwr_fit(
 {
     let n = coords.len() / 2;
     let u = Setup { options, n, p };
-    let acceptance = plan::accept(coords, x, y, trust, p, options, out.len());
-    match acceptance {
-        Acceptance::Refused(r) => Fit {
+    match plan::accept(coords, x, y, trust, p, options, out.len()) {
+        Err(r) => Fit {
             answer: FitAnswer::Rejected(r),
             rows: 0,
         },
-        Acceptance::Planned(q) => match q {
-            Plan::Settled(b) => final_of(coords, x, y, trust, u, b, 0, out),
-            Plan::Sought(lo, hi) => sought_of(coords, x, y, trust, u, lo, hi, out),
-        },
+        Ok(Plan::Settled(b)) => final_of(coords, x, y, trust, u, b, 0, out),
+        Ok(Plan::Sought(lo, hi)) => sought_of(coords, x, y, trust, u, lo, hi, out),
     }
 }

@@ -10,60 +10,59 @@ ghost use Rattle.checks.specs.Judge.{judge};
 ghost use Rattle.input.specs.Checks.{shape_tests, value_tests, output_tests, room_tests, input_tests, lengths_fit, unusable_given, seeks_distance, nothing_between, option_tests_at};
 
 use bounds::usable_distance;
-use checks::Check;
 use real::{all_finite, all_in_unit};
 use refusal::Refusal;
 use setup::{GwrBandwidth, GwrOptions, Setup};
 
 // Refusals 1 to 7: the lengths of the slices and the number of predictors.
-fn check_shape(coords: usize, x: usize, y: usize, trusts: usize, p: usize) -> Check
+fn check_shape(coords: usize, x: usize, y: usize, trusts: usize, p: usize) -> Result<(), Refusal>
     ensures { result ≡ judge (shape_tests coords x y trusts p) }
 {
     if coords == 0 {
-        return Check::Refused(Refusal::NoCoordinates);
+        return Err(Refusal::NoCoordinates);
     }
     if coords % 2 == 1 {
-        return Check::Refused(Refusal::OddCoordinates);
+        return Err(Refusal::OddCoordinates);
     }
     let n = coords / 2;
     if 512 < n {
-        return Check::Refused(Refusal::TooManyObservations);
+        return Err(Refusal::TooManyObservations);
     }
     if 7 < p {
-        return Check::Refused(Refusal::TooManyPredictors);
+        return Err(Refusal::TooManyPredictors);
     }
     if x != n * p {
-        return Check::Refused(Refusal::PredictorLength);
+        return Err(Refusal::PredictorLength);
     }
     if y != n {
-        return Check::Refused(Refusal::ResponseLength);
+        return Err(Refusal::ResponseLength);
     }
     if trusts != n {
-        return Check::Refused(Refusal::ResponseLength);
+        return Err(Refusal::ResponseLength);
     }
     if n < p + 1 {
-        return Check::Refused(Refusal::TooFewObservations);
+        return Err(Refusal::TooFewObservations);
     }
-    Check::Pass
+    Ok(())
 }
 
 // Refusals 8 to 10, a response, coordinate or predictor that is not finite, and 26, a trust that is not in 0..1.
-pub fn check_values(coords: &[f64], x: &[f64], y: &[f64], trust: &[f64]) -> Check
+pub fn check_values(coords: &[f64], x: &[f64], y: &[f64], trust: &[f64]) -> Result<(), Refusal>
     ensures { result ≡ judge (value_tests (trusted_data coords.now x.now y.now trust.now)) }
 {
     if !all_finite(y) {
-        return Check::Refused(Refusal::ResponseNotFinite);
+        return Err(Refusal::ResponseNotFinite);
     }
     if !all_finite(coords) {
-        return Check::Refused(Refusal::CoordinateNotFinite);
+        return Err(Refusal::CoordinateNotFinite);
     }
     if !all_finite(x) {
-        return Check::Refused(Refusal::PredictorNotFinite);
+        return Err(Refusal::PredictorNotFinite);
     }
     if !all_in_unit(trust) {
-        return Check::Refused(Refusal::TrustOutOfRange);
+        return Err(Refusal::TrustOutOfRange);
     }
-    Check::Pass
+    Ok(())
 }
 
 // Whether an observation's numbers are finite and its trust lies from 0 to 1. A zero that is multiplied by a number is NaN where that is
@@ -98,18 +97,18 @@ pub fn values_good(coords: &[f64], x: &[f64], y: &[f64], trust: &[f64]) -> bool
 }
 
 // Refusal 13: an output with no room for n rows.
-fn check_output(n: usize, p: usize, out: usize) -> Check
+fn check_output(n: usize, p: usize, out: usize) -> Result<(), Refusal>
     requires { (n ≤ 512) × (p ≤ 7) }
     ensures { result ≡ judge (output_tests n p out) }
 {
     if out < n * (p + 4) {
-        return Check::Refused(Refusal::OutputTooShort);
+        return Err(Refusal::OutputTooShort);
     }
-    Check::Pass
+    Ok(())
 }
 
 // Refusal 13 of a job of known sizes.
-pub fn check_room(u: Setup, out: usize) -> Check
+pub fn check_room(u: Setup, out: usize) -> Result<(), Refusal>
     requires { Sized u }
     ensures { result ≡ judge (room_tests u out) }
 {
@@ -124,20 +123,12 @@ pub fn check_input(
     trust: &[f64],
     p: usize,
     out: usize,
-) -> Check
+) -> Result<(), Refusal>
     ensures { result ≡ judge (input_tests (trusted_data coords.now x.now y.now trust.now) p out) }
 {
-    let shape = check_shape(coords.len(), x.len(), y.len(), trust.len(), p);
-    match shape {
-        Check::Refused(r) => Check::Refused(r),
-        Check::Pass => {
-            let values = check_values(coords, x, y, trust);
-            match values {
-                Check::Refused(r) => Check::Refused(r),
-                Check::Pass => check_output(coords.len() / 2, p, out),
-            }
-        }
-    }
+    check_shape(coords.len(), x.len(), y.len(), trust.len(), p)?;
+    check_values(coords, x, y, trust)?;
+    check_output(coords.len() / 2, p, out)
 }
 
 // Whether the slices have the lengths that the job's sizes say.
@@ -184,16 +175,16 @@ fn nothing_between(searched: bool, bandwidth: GwrBandwidth, hi: f64) -> bool
 }
 
 // Refusals 11 and 12, where hi is the greatest pair distance.
-pub fn check_options(options: GwrOptions, hi: f64) -> Check
+pub fn check_options(options: GwrOptions, hi: f64) -> Result<(), Refusal>
     ensures { result ≡ judge (option_tests_at options hi) }
 {
     let searched = options.optimize_bandwidth;
     let bandwidth = options.bandwidth;
     if unusable_given(searched, bandwidth) {
-        return Check::Refused(Refusal::UnusableDistance);
+        return Err(Refusal::UnusableDistance);
     }
     if nothing_between(searched, bandwidth, hi) {
-        return Check::Refused(Refusal::NoDistanceRange);
+        return Err(Refusal::NoDistanceRange);
     }
-    Check::Pass
+    Ok(())
 }

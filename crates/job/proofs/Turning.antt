@@ -7,6 +7,7 @@ use native.Mathlib.Omega.{arith}
 use borrow.Author.Tests.{ltb-false, not-false}
 use lib.ListN.{length}
 use lib.Ieee.{Float}
+use Rattle.std.specs.Prelude.{Ok, Err}
 use Rattle.refusal.specs.declared.Refusal.{Refusal}
 use Rattle.refusal.specs.declared.Refusal.TheVariants.{UnfitRecord, AlreadyEnded, LengthsDiffer}
 use Rattle.setup.specs.declared.GwrBandwidth.{GwrBandwidth}
@@ -15,9 +16,7 @@ use Rattle.setup.specs.Bandwidth.{Usable}
 use Rattle.setup.specs.Data.{Data}
 use Rattle.setup.specs.Shape.{Shaped}
 use Rattle.criterion.specs.declared.Criterion.{Criterion}
-use Rattle.checks.specs.declared.Check.{Check}
-use Rattle.checks.specs.declared.Check.TheVariants as check
-use Rattle.checks.specs.Judge.{judge, ruled, NoneOf, Decides}
+use Rattle.checks.specs.Judge.{Check, judge, ruled, NoneOf, Decides}
 use Rattle.checks.proofs.Judge.{ruled_refused, ruled_pass, judge_append, first_here, judge_rest, none_head, none_append, decides}
 use Rattle.input.specs.Checks.{output_tests, value_tests, room_tests, lengths_fit}
 use Rattle.input.proofs.Meanings.{lengths_shaped}
@@ -42,19 +41,19 @@ use Rattle.job.proofs.Runs.{Running, running_none, running_more, running_over, r
 -- ---- what is lent
 
 module _ (u : Setup) (d : Data) (out : ℕ) where
-  pub lent_differ : lengths_fit u d ≡ false → check.Refused LengthsDiffer ≡ judge (lent_tests u d out)
+  pub lent_differ : lengths_fit u d ≡ false → Err LengthsDiffer ≡ judge (lent_tests u d out)
   unfolding lent_tests
   lent_differ e = sym (first_here LengthsDiffer _ (ap not e))
 
-  lent_rest : lengths_fit u d ≡ true → judge (lent_tests u d out) ≡ ruled (judge (value_tests d)) check.Refused (judge (room_tests u out))
+  lent_rest : lengths_fit u d ≡ true → judge (lent_tests u d out) ≡ ruled (judge (value_tests d)) Err (judge (room_tests u out))
   unfolding lent_tests
   lent_rest e = judge_rest LengthsDiffer _ (ap not e) ∙ judge_append (value_tests d) (room_tests u out)
 
-  pub lent_refused : (r : Refusal) → lengths_fit u d ≡ true → judge (value_tests d) ≡ check.Refused r → check.Refused r ≡ judge (lent_tests u d out)
-  lent_refused r e h = sym (lent_rest e ∙ ruled_refused check.Refused (judge (room_tests u out)) h)
+  pub lent_refused : (r : Refusal) → lengths_fit u d ≡ true → judge (value_tests d) ≡ Err r → Err r ≡ judge (lent_tests u d out)
+  lent_refused r e h = sym (lent_rest e ∙ ruled_refused Err (judge (room_tests u out)) h)
 
-  pub lent_room : (k : Check) → lengths_fit u d ≡ true → judge (value_tests d) ≡ check.Pass → k ≡ judge (room_tests u out) → k ≡ judge (lent_tests u d out)
-  lent_room k e h r = r ∙ sym (lent_rest e ∙ ruled_pass check.Refused (judge (room_tests u out)) h)
+  pub lent_room : (k : Check) → lengths_fit u d ≡ true → judge (value_tests d) ≡ Ok tt → k ≡ judge (room_tests u out) → k ≡ judge (lent_tests u d out)
+  lent_room k e h r = r ∙ sym (lent_rest e ∙ ruled_pass Err (judge (room_tests u out)) h)
 
 -- ---- a turn's tests
 
@@ -62,11 +61,11 @@ module _ (j : Job) (d : Data) (out : ℕ) where
   abbrev tests : List (Bool × Refusal)
   tests = turn_tests j d out
 
-  pub turn_unfit : is_fit j ≡ false → check.Refused UnfitRecord ≡ judge tests
+  pub turn_unfit : is_fit j ≡ false → Err UnfitRecord ≡ judge tests
   unfolding turn_tests
   turn_unfit e = sym (first_here UnfitRecord _ (ap not e))
 
-  pub turn_ended : is_fit j ≡ true → is_ended j.stage ≡ true → check.Refused AlreadyEnded ≡ judge tests
+  pub turn_ended : is_fit j ≡ true → is_ended j.stage ≡ true → Err AlreadyEnded ≡ judge tests
   unfolding turn_tests
   turn_ended e f = sym (judge_rest UnfitRecord _ (ap not e) ∙ first_here AlreadyEnded _ f)
 
@@ -95,10 +94,10 @@ module _ (j : Job) (d : Data) (out : List Float) (a : ℕ) where
   unfolding turn_of
   turn_decides = decides (turn_tests j d (length out)) refl
 
-  pub turn_refused : (k : Check) (r : Refusal) → k ≡ judge (turn_tests j d (length out)) → k ≡ check.Refused r → refused_turn j out r ≡ turn_of j d out a
+  pub turn_refused : (k : Check) (r : Refusal) → k ≡ judge (turn_tests j d (length out)) → k ≡ Err r → refused_turn j out r ≡ turn_of j d out a
   turn_refused k r e f = sym (turn_decides.refused r (sym e ∙ f))
 
-  pub turn_ran : (k : Check) (t : Turned × List Float) → k ≡ judge (turn_tests j d (length out)) → k ≡ check.Pass → t ≡ run_of j d out a → t ≡ turn_of j d out a
+  pub turn_ran : (k : Check) (t : Turned × List Float) → k ≡ judge (turn_tests j d (length out)) → k ≡ Ok tt → t ≡ run_of j d out a → t ≡ turn_of j d out a
   turn_ran k t e f h = h ∙ sym (turn_decides.served (sym e ∙ f))
 
 -- ---- what a job says of itself

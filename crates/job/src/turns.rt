@@ -8,7 +8,6 @@ ghost use Rattle.stepping.specs.Sound.{Sound};
 ghost use Rattle.job.specs.Turn.{lent_tests, turn_tests, answer_at, tell_of, run_of, turn_of};
 
 use super::{Answer, Turned};
-use checks::Check;
 use fitness::is_fit;
 use refusal::Refusal;
 use setup::Setup;
@@ -16,36 +15,31 @@ use stepping::{Job, Stage};
 
 // Refusal 21, then 8, 9, 10, 26 and 13, of what a turn is lent. Which of 8 to 26 is met is asked only where one is: the data were good
 // when the job began.
-fn check_lent(coords: &[f64], x: &[f64], y: &[f64], trust: &[f64], u: Setup, out: usize) -> Check
+fn check_lent(coords: &[f64], x: &[f64], y: &[f64], trust: &[f64], u: Setup, out: usize) -> Result<(), Refusal>
     requires { Sized u }
     ensures { result ≡ judge (lent_tests u (trusted_data coords.now x.now y.now trust.now) out) }
 {
-    if input::lengths_fit(coords, x, y, trust, u) {
-        if input::values_good(coords, x, y, trust) {
-            return input::check_room(u, out);
-        }
-        let values = input::check_values(coords, x, y, trust);
-        return match values {
-            Check::Refused(r) => Check::Refused(r),
-            Check::Pass => input::check_room(u, out),
-        };
+    if !input::lengths_fit(coords, x, y, trust, u) {
+        return Err(Refusal::LengthsDiffer);
     }
-    Check::Refused(Refusal::LengthsDiffer)
+    if !input::values_good(coords, x, y, trust) {
+        input::check_values(coords, x, y, trust)?;
+    }
+    input::check_room(u, out)
 }
 
 // The refusals of a turn in order.
-fn check_turn(j: Job, coords: &[f64], x: &[f64], y: &[f64], trust: &[f64], out: usize) -> Check
+fn check_turn(j: Job, coords: &[f64], x: &[f64], y: &[f64], trust: &[f64], out: usize) -> Result<(), Refusal>
     ensures { result ≡ judge (turn_tests j (trusted_data coords.now x.now y.now trust.now) out) }
 {
-    if is_fit(j) {
-        let stage = j.stage;
-        if stage.is_ended() {
-            return Check::Refused(Refusal::AlreadyEnded);
-        }
-        let u = j.setup;
-        return check_lent(coords, x, y, trust, u, out);
+    if !is_fit(j) {
+        return Err(Refusal::UnfitRecord);
     }
-    Check::Refused(Refusal::UnfitRecord)
+    let stage = j.stage;
+    if stage.is_ended() {
+        return Err(Refusal::AlreadyEnded);
+    }
+    check_lent(coords, x, y, trust, j.setup, out)
 }
 
 // What a job at this stage says of itself.
@@ -119,13 +113,12 @@ pub fn turn(
 ) -> Turned
     ensures { (result, out.new) ≡ turn_of j (trusted_data coords.now x.now y.now trust.now) out.old allowance }
 {
-    let check = check_turn(j, coords, x, y, trust, out.len());
-    match check {
-        Check::Refused(r) => Turned {
+    match check_turn(j, coords, x, y, trust, out.len()) {
+        Err(r) => Turned {
             answer: Answer::Refused(r),
             steps: 0,
             job: j,
         },
-        Check::Pass => run(j, coords, x, y, trust, out, allowance),
+        Ok(()) => run(j, coords, x, y, trust, out, allowance),
     }
 }

@@ -3,9 +3,9 @@ use mathlib.Core.Path.{◌≡◌, sym, ap, ◌∙◌}
 use mathlib.Core.List.{List}
 use Prim.Native.Nat.{ℕ}
 use lib.Ieee.{Float}
+use Rattle.std.specs.Prelude.{Result, Ok, Err}
 use Rattle.refusal.specs.Numbers.{refusal_number}
 use Rattle.refusal.specs.declared.Refusal.{Refusal}
-use Rattle.refusal.specs.declared.Refusal.TheVariants.{UnknownNumber}
 use Rattle.setup.specs.declared.GwrCriterion.{GwrCriterion}
 use Rattle.setup.specs.declared.GwrOptions.{GwrOptions}
 use Rattle.setup.specs.Data.{Data}
@@ -17,8 +17,6 @@ use Rattle.gwr.specs.declared.FitAnswer.{FitAnswer}
 use Rattle.gwr.specs.declared.FitAnswer.TheVariants.{Done, Rejected}
 use Rattle.gwr.specs.declared.Fit.{Fit}
 use Rattle.gwr.specs.Fit.{gwr_fit}
-use Rattle.request.specs.declared.Choice.{Choice}
-use Rattle.request.specs.declared.Choice.TheVariants.{Known, Unknown}
 use Rattle.request.specs.Options.{options_of}
 use Rattle.measured.specs.Fits.{Seen, criterion_by, told_of, seen_of, fit_seen, chosen_fit, judged_fit}
 
@@ -42,16 +40,16 @@ fit_told {after = after} reals counts e h = ap (λ (s : Seen). (s, after)) h ∙
 -- ---- the call
 
 module _ (d : Data) (p kernel kind bandwidth criterion : ℕ) (out reals : List Float) (counts : List ℕ) where
-  pub choice_unknown : {c : Choice} {n : ℕ} → c ≡ options_of kernel kind bandwidth → c ≡ Unknown → n ≡ refusal_number UnknownNumber
+  pub choice_unknown : {c : Result GwrOptions Refusal} {r : Refusal} {n : ℕ} → c ≡ options_of kernel kind bandwidth → c ≡ Err r → n ≡ refusal_number r
       → ◌≡◌ {A = Seen × List Float} ((n, (reals, counts)), out) (judged_fit d p kernel kind bandwidth criterion out reals counts)
   unfolding judged_fit
-  choice_unknown e f h = ap (λ (n : ℕ). ((n, (reals, counts)), out)) h ∙ ap (λ (c : Choice). chosen_fit c d p (criterion_by criterion) out reals counts) (sym f ∙ e)
+  choice_unknown e f h = ap (λ (n : ℕ). ((n, (reals, counts)), out)) h ∙ ap (λ (c : Result GwrOptions Refusal). chosen_fit c d p (criterion_by criterion) out reals counts) (sym f ∙ e)
 
-  pub choice_known : {c : Choice} {o q : GwrOptions} {g : GwrCriterion} {seen : Seen × List Float} → c ≡ options_of kernel kind bandwidth → c ≡ Known o → g ≡ criterion_by criterion → q ≡ judged_by g o
+  pub choice_known : {c : Result GwrOptions Refusal} {o q : GwrOptions} {g : GwrCriterion} {seen : Seen × List Float} → c ≡ options_of kernel kind bandwidth → c ≡ Ok o → g ≡ criterion_by criterion → q ≡ judged_by g o
       → seen ≡ fit_seen (gwr_fit d p q out) reals counts → seen ≡ judged_fit d p kernel kind bandwidth criterion out reals counts
   unfolding judged_fit
   choice_known {o = o} e f g h i =
       i
       ∙ ap (λ (q : GwrOptions). fit_seen (gwr_fit d p q out) reals counts) h
       ∙ ap (λ (g : GwrCriterion). fit_seen (gwr_fit d p (judged_by g o) out) reals counts) g
-      ∙ ap (λ (c : Choice). chosen_fit c d p (criterion_by criterion) out reals counts) (sym f ∙ e)
+      ∙ ap (λ (c : Result GwrOptions Refusal). chosen_fit c d p (criterion_by criterion) out reals counts) (sym f ∙ e)

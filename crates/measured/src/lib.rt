@@ -18,8 +18,6 @@ use criterion::Summary;
 use gwr::FitAnswer;
 use kernel::GwrKernel;
 use neighbours::Walker;
-use refusal::Refusal;
-use request::Choice;
 use setup::{GwrBandwidth, GwrCriterion, GwrOptions};
 use stepping::Job;
 use sweep::Finish;
@@ -262,10 +260,9 @@ pub extern "C" fn zescolumba_fit_judged(
 ) -> u32
     ensures { ((result, (reals.new, counts.new)), out.new) ≡ judged_fit (trusted_data coords.now x.now y.now trust.now) p kernel kind bandwidth criterion out.old reals.old counts.old }
 {
-    let choice = request::options_of(kernel, kind, bandwidth);
-    match choice {
-        Choice::Unknown => Refusal::UnknownNumber.number(),
-        Choice::Known(o) => {
+    match request::options_of(kernel, kind, bandwidth) {
+        Err(r) => r.number(),
+        Ok(o) => {
             let options = o.judged_by(criterion_by(criterion));
             fit_seen(coords, x, y, trust, p, options, out, reals, counts)
         }

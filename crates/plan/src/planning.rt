@@ -5,10 +5,10 @@ ghost use Rattle.setup.specs.Shape.{Sized};
 ghost use Rattle.bounds.specs.Bounds.{greatest_distance};
 ghost use Rattle.plan.specs.Plan.{resolve_initial_bandwidth, distance_plan, count_plan, search_plan, plan_at, plan_options_at, accept_of};
 
-use super::{Acceptance, Plan};
+use super::Plan;
 use bounds::{greatest_count, greatest_distance, least_count, least_distance};
-use checks::Check;
 use input::{check_input, check_options, seeks_distance};
+use refusal::Refusal;
 use setup::{GwrBandwidth, GwrOptions, Setup};
 
 // The bandwidth given, a count resolved.
@@ -70,19 +70,16 @@ fn plan_at(u: Setup, hi: f64) -> Plan
 }
 
 // Refusals 11 and 12, or what the job does.
-fn plan_options_at(u: Setup, hi: f64) -> Acceptance
+fn plan_options_at(u: Setup, hi: f64) -> Result<Plan, Refusal>
     requires { Sized u }
     ensures { result ≡ plan_options_at u hi }
 {
-    let check = check_options(u.options, hi);
-    match check {
-        Check::Refused(r) => Acceptance::Refused(r),
-        Check::Pass => Acceptance::Planned(plan_at(u, hi)),
-    }
+    check_options(u.options, hi)?;
+    Ok(plan_at(u, hi))
 }
 
 // The same of the coordinates. The greatest pair distance is asked for only where a distance is sought.
-pub fn plan_options(coords: &[f64], u: Setup) -> Acceptance
+pub fn plan_options(coords: &[f64], u: Setup) -> Result<Plan, Refusal>
     requires lengths { length coords.now ≡ 2 * u.n }
     requires sized { Sized u }
     ensures { result ≡ plan_options_at u (greatest_distance coords.now u.n) }
@@ -104,15 +101,10 @@ pub fn accept(
     p: usize,
     options: GwrOptions,
     out: usize,
-) -> Acceptance
+) -> Result<Plan, Refusal>
     ensures { result ≡ accept_of (trusted_data coords.now x.now y.now trust.now) p options out }
 {
-    let input = check_input(coords, x, y, trust, p, out);
-    match input {
-        Check::Refused(r) => Acceptance::Refused(r),
-        Check::Pass => {
-            let n = coords.len() / 2;
-            plan_options(coords, Setup { options, n, p })
-        }
-    }
+    check_input(coords, x, y, trust, p, out)?;
+    let n = coords.len() / 2;
+    plan_options(coords, Setup { options, n, p })
 }

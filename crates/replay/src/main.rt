@@ -52,9 +52,10 @@ fn answered(
     let kind = wire::load(head, 56);
     let bandwidth = wire::load(head, 64);
     if wire::load(head, 80) == WEIGHTS {
-        return weighing::weight_bytes(kernel, p, bandwidth, out);
+        return request::answer_number(weighing::weight_bytes(kernel, p, bandwidth, out));
     }
-    calls::fit_bytes(coords, x, y, p, kernel, kind, bandwidth, out, summary)
+    let answer = calls::fit_bytes(coords, x, y, p, kernel, kind, bandwidth, out, summary);
+    request::answer_number(answer)
 }
 
 // Whether the call answers what the record says, and leaves the bytes that it says.

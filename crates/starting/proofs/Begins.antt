@@ -6,8 +6,7 @@ use Rattle.refusal.specs.declared.Refusal.{Refusal}
 use Rattle.setup.specs.declared.GwrOptions.{GwrOptions}
 use Rattle.setup.specs.Data.{Data}
 use Rattle.setup.specs.Shape.{setup_of}
-use Rattle.plan.specs.declared.Acceptance.{Acceptance}
-use Rattle.plan.specs.Plan.{accept_of}
+use Rattle.plan.specs.Plan.{Acceptance, accept_of}
 use Rattle.stepping.specs.declared.Job.{Job}
 use Rattle.starting.specs.Begin.{begun_with, begin_of}
 

@@ -8,10 +8,8 @@ use Rattle.setup.specs.Shape.{setup_of}
 use Rattle.golden.specs.Golden.{no_bracket, start_of}
 use Rattle.plan.specs.declared.Plan.{Plan}
 use Rattle.plan.specs.declared.Plan.TheVariants.{Settled, Sought}
-use Rattle.plan.specs.declared.Acceptance.{Acceptance}
-use Rattle.plan.specs.declared.Acceptance.TheVariants as acceptance
 use Rattle.bounds.specs.Bounds.{bandwidth_at}
-use Rattle.plan.specs.Plan.{accept_of}
+use Rattle.plan.specs.Plan.{Acceptance, accept_of}
 use Rattle.stepping.specs.declared.Stage.TheVariants.{First, Final}
 use Rattle.stepping.specs.declared.Job.{Job}
 use Rattle.stepping.specs.Step.{fresh_job}
@@ -23,8 +21,8 @@ start_job u (Sought lo hi) = let g = start_of lo hi in fresh_job u First g (band
 
 -- a refused beginning makes no job
 abbrev pub begun_with : Acceptance → Setup → Result Job Refusal
-begun_with (acceptance.Refused r) u = Err r
-begun_with (acceptance.Planned q) u = Ok (start_job u q)
+begun_with (Err r) u = Err r
+begun_with (Ok q) u = Ok (start_job u q)
 
 -- 01: beginning runs the input checks and sets up the first trial or the final fit; out is the output's length
 unfoldable pub begin_of : Data → ℕ → GwrOptions → ℕ → Result Job Refusal

@@ -7,7 +7,7 @@ ghost use Rattle.setup.specs.Shape.{Sized};
 ghost use Rattle.starting.specs.Begin.{start_job, begin_of};
 
 use golden::Bracket;
-use plan::{Acceptance, Plan};
+use plan::Plan;
 use refusal::Refusal;
 use setup::{GwrOptions, Setup};
 use stepping::{Job, Stage};
@@ -40,8 +40,8 @@ pub fn begin(
     ensures { result ≡ begin_of (trusted_data coords.now x.now y.now trust.now) p options (length out.now) }
 {
     match plan::accept(coords, x, y, trust, p, options, out.len()) {
-        Acceptance::Refused(r) => Err(r),
-        Acceptance::Planned(plan) => {
+        Err(r) => Err(r),
+        Ok(plan) => {
             let n = coords.len() / 2;
             Ok(start(Setup { options, n, p }, plan))
         }

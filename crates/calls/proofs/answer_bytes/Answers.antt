@@ -1,4 +1,5 @@
 -- `calls::answer_bytes`: a refusal from the input writes nothing, a fit that was made its rows and its summary.
+use mathlib.Core.Path.{refl}
 use lib.ListN.{length}
 use Rattle.calls.proofs.Answers.{answer_rejected, answer_failed, answer_fitted, answer_writable}
 use Rattle.calls.proofs.answer_bytes.Goals as goal
@@ -20,11 +21,11 @@ store_summary-requires-in-Fitted c =
     (let a = c.args in answer_writable a.answer _ a.count (length a.rows.now) (length a.out.now) (length a.summary.now) c.in-Done.is c.requires).whole
 
 pub returns-in-Rejected : goal.returns-in-Rejected
-returns-in-Rejected c = answer_rejected _ _ _ _ _ _ c.in-Rejected.is c.number.ensures
+returns-in-Rejected c = answer_rejected _ _ _ _ _ _ c.in-Rejected.is refl
 
 pub returns-in-Failed : goal.returns-in-Failed
 returns-in-Failed c =
-    answer_failed _ _ _ _ _ _ _ _ c.in-Done.is c.store_rows.ensures c.store_summary.ensures _ _ c.in-Failed.is c.number-in-Failed.ensures
+    answer_failed _ _ _ _ _ _ _ _ c.in-Done.is c.store_rows.ensures c.store_summary.ensures _ _ c.in-Failed.is refl
 
 pub returns-in-Fitted : goal.returns-in-Fitted
 returns-in-Fitted c =

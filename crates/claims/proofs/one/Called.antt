@@ -6,12 +6,12 @@ use Prim.Native.Nat.{ℕ, ◌+◌, ◌*◌, ◌/◌, ◌≤◌, ◌<◌}
 use native.Mathlib.Omega.{arith}
 use lib.ListN.{length, take, replicate}
 use lib.Ieee.{Float}
+use Rattle.std.specs.Prelude.{Ok}
 use Rattle.claims.specs.Words.{zero64, Refusal, refusal_number, NoneOf, Decides, GwrKernel, weight_of, GwrBandwidth, GwrOptions, Setup, setup_of, Data, solve_location, Criterion, deviation, corrected_aic, rounded, from_count, root, finish_of, FitAnswer, real_of, kernel_of, named_kernel, options_of, named, AfterCall, numbers_of, call_tests, placed_rows, answer_bytes, numbers_fit, fit_bytes, weight_tests, refused_weight, given_weight, weight_bytes}
 use Rattle.claims.proofs.Laws.{either, AtFit, OutcomeBy, call_decides, weight_decides, call_passed, call_untouched, weight_known}
 use lib.Ieee.Scale.{finite}
 use Rattle.sweep.specs.declared.Finish.TheVariants as finish
 use Rattle.gwr.specs.declared.FitAnswer.TheVariants as fit
-use Rattle.request.specs.declared.KernelChoice.TheVariants as choice
 use Rattle.claims.specs.DemandOne.{FitAnswered, BytesServed}
 use Rattle.claims.proofs.Sums.{accepted, weighs_at, trusting_weighs}
 use Rattle.claims.proofs.one.Deciding.{fit_decides}
@@ -83,7 +83,7 @@ module _ (coords x y : List ℕ) (p kernel kind bandwidth : ℕ) (out summary : 
 
 pub weight_call_decides : (kernel d b : ℕ) (out : List ℕ)
     → Decides (weight_tests kernel d (length out)) (λ (r : Refusal). weight_bytes kernel d b out ≡ refused_weight r out)
-    ((k : GwrKernel) × (kernel_of kernel ≡ choice.Known k) × (weight_bytes kernel d b out ≡ given_weight (weight_of k (real_of d) (real_of b)) out))
+    ((k : GwrKernel) × (kernel_of kernel ≡ Ok k) × (weight_bytes kernel d b out ≡ given_weight (weight_of k (real_of d) (real_of b)) out))
 weight_call_decides kernel d b out =
     let w = weight_decides kernel d b out in
     record { refused = w.refused; served = λ h. (named_kernel (kernel_of kernel), weight_known kernel d (length out) h, w.served h) }

@@ -7,7 +7,6 @@ use lib.ListN.{length, replicate, length-replicate}
 use lib.Ieee.{Float}
 use Rattle.claims.specs.Words.{zero64, Refusal, FirstOf, NoneOf, Decides, GwrOptions, Setup, Data, setup_of, Plan, Acceptance, fit_tests, plan_of, accept_of, answered, gwr_fit, Job, start_job, begun_with, begin_of}
 use Rattle.claims.proofs.Laws.{accept_decides, fit_means}
-use Rattle.plan.specs.declared.Acceptance.TheVariants as acceptance
 use Rattle.gwr.specs.declared.FitAnswer.TheVariants as fit
 use Rattle.std.specs.Prelude.{Ok, Err}
 use Rattle.claims.specs.Whole.{to_final}
@@ -37,7 +36,7 @@ module _ (d : Data) (p : ℕ) (o : GwrOptions) where
   module _ (out : List Float) where
     -- an accepted job begins
     ready : NoneOf (fit_tests d p o (length out)) → begin_of d p o (length out) ≡ Ok own_job
-    ready h = begun_as (length out) (acceptance.Planned q) ((accept_decides d p o (length out)).served h)
+    ready h = begun_as (length out) (Ok q) ((accept_decides d p o (length out)).served h)
 
     fit_served : NoneOf (fit_tests d p o (length out)) → JobServed d p o out
     unfolding AllLawful
@@ -58,6 +57,6 @@ module _ (d : Data) (p : ℕ) (o : GwrOptions) where
   pub begin_decides : (out : ℕ) → Decides (fit_tests d p o out) (λ (r : Refusal). begin_of d p o out ≡ Err r) (BeginServed (begin_of d p o out))
   begin_decides out =
       record {
-        refused = λ r h. begun_as out (acceptance.Refused r) ((accept_decides d p o out).refused r h);
+        refused = λ r h. begun_as out (Err r) ((accept_decides d p o out).refused r h);
         served = subst (λ (k : ℕ). NoneOf (fit_tests d p o k) → BeginServed (begin_of d p o k)) (length-replicate out zero64) (begin_served (replicate out zero64));
       }

@@ -4,9 +4,9 @@ use mathlib.Core.Bool.{Bool, true, false, cond, not}
 use mathlib.Core.Logic.{inl, inr}
 use Prim.Native.Nat.{ℕ, ◌+◌}
 use lib.Ieee.{Float, lt}
+use Rattle.std.specs.Prelude.{Ok, Err}
 use Rattle.claims.specs.Words.{zero64, Row, Matrix, Refusal, WeightSumNotPositive, Singular, InverseNotFinite, CoefficientNotFinite, Check, judge, Decides, GwrBandwidth, Setup, Data, local_bandwidth_distance, weights_at, equations_of, inverse_finite, coefficients_of, coefficients_finite, refused_with, from_inverse, eliminated_of, coefficients_under, fit_coefficients, Values, Outcome, outcome_of, solve_local, solve_location}
 use Rattle.claims.proofs.Laws.{AtLocation}
-use Rattle.checks.specs.declared.Check.TheVariants as check
 use Rattle.estimate.specs.declared.Estimated.{Estimated}
 use Rattle.estimate.specs.declared.Estimate.TheVariants as estimate
 use Rattle.local.specs.declared.Outcome.TheVariants as outcome
@@ -20,8 +20,8 @@ at_met r (inr (inr (inr e))) = inr (inr (inr (inl e)))
 
 -- what the tests make of a solve
 abbrev As : Check → Outcome → Type 0
-As check.Pass o = Found o
-As (check.Refused r) o = o ≡ outcome.Refused r
+As (Ok passed) o = Found o
+As (Err r) o = o ≡ outcome.Refused r
 
 module _ (u : Setup) (d : Data) (b : GwrBandwidth) (i : ℕ) where
   abbrev s : Row × Float
@@ -41,7 +41,7 @@ module _ (u : Setup) (d : Data) (b : GwrBandwidth) (i : ℕ) where
 
   -- by whether the matrix is not singular, the inverse finite, and the coefficients finite
   abbrev tested : Bool → Bool → Bool → Check
-  tested s f g = cond (not s) (check.Refused Singular) (cond (not f) (check.Refused InverseNotFinite) (cond (not g) (check.Refused CoefficientNotFinite) check.Pass))
+  tested s f g = cond (not s) (Err Singular) (cond (not f) (Err InverseNotFinite) (cond (not g) (Err CoefficientNotFinite) (Ok tt)))
 
   abbrev estimated : Bool → Bool → Bool → Estimated
   estimated s f g = cond s (cond f (cond g (record { estimate = estimate.Fitted; beta = beta }) (refused_with CoefficientNotFinite)) (refused_with InverseNotFinite)) (refused_with Singular)
@@ -55,7 +55,7 @@ module _ (u : Setup) (d : Data) (b : GwrBandwidth) (i : ℕ) where
 
   -- and before these by whether the weights sum to more than zero
   four : (z s f g : Bool) (a zeros : Matrix) (v : Values)
-      → As (cond (not z) (check.Refused WeightSumNotPositive) (tested s f g)) (outcome_of (cond {A = Estimated × Matrix} z (estimated s f g, a) (refused_with WeightSumNotPositive, zeros)).0.estimate v)
+      → As (cond (not z) (Err WeightSumNotPositive) (tested s f g)) (outcome_of (cond {A = Estimated × Matrix} z (estimated s f g, a) (refused_with WeightSumNotPositive, zeros)).0.estimate v)
   unfolding outcome_of
   four true s f g a zeros v = three s f g v
   four false s f g a zeros v = refl

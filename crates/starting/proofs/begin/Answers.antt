@@ -6,10 +6,10 @@ use Rattle.starting.proofs.Begins.{begin_is}
 use Rattle.starting.proofs.begin.Goals as goal
 
 pub start-requires : goal.start-requires
-start-requires c = (accept_planned _ _ _ _ (sym c.accept.ensures ∙ c.in-Planned.is)).accepted.shaped.sized
+start-requires c = (accept_planned _ _ _ _ (sym c.accept.ensures ∙ c.in-Ok.is)).accepted.shaped.sized
 
-pub returns-in-Refused : goal.returns-in-Refused
-returns-in-Refused c = begin_is _ _ _ _ _ _ (sym c.accept.ensures ∙ c.in-Refused.is) refl
+pub returns-in-Err : goal.returns-in-Err
+returns-in-Err c = begin_is _ _ _ _ _ _ (sym c.accept.ensures ∙ c.in-Err.is) refl
 
-pub returns-in-Planned : goal.returns-in-Planned
-returns-in-Planned c = begin_is _ _ _ _ _ _ (sym c.accept.ensures ∙ c.in-Planned.is) (ap Ok c.start.ensures)
+pub returns-in-Ok : goal.returns-in-Ok
+returns-in-Ok c = begin_is _ _ _ _ _ _ (sym c.accept.ensures ∙ c.in-Ok.is) (ap Ok c.start.ensures)

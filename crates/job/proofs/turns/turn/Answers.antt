@@ -5,10 +5,10 @@ use Rattle.job.proofs.turns.turn.Goals as goal
 
 pub run-requires : goal.run-requires
 run-requires c =
-    let a = turn_passed _ _ _ (sym c.check_turn-check.ensures ∙ c.in-Pass.is) in record { sound = a.0; shaped = a.1; room = a.2 }
+    let a = turn_passed _ _ _ (sym c.check_turn.ensures ∙ c.in-Ok.is) in record { sound = a.0; shaped = a.1; room = a.2 }
 
-pub returns-in-Refused : goal.returns-in-Refused
-returns-in-Refused c = turn_refused _ _ _ _ _ _ c.check_turn-check.ensures c.in-Refused.is
+pub returns-in-Err : goal.returns-in-Err
+returns-in-Err c = turn_refused _ _ _ _ _ _ c.check_turn.ensures c.in-Err.is
 
-pub returns-in-Pass : goal.returns-in-Pass
-returns-in-Pass c = turn_ran _ _ _ _ _ _ c.check_turn-check.ensures c.in-Pass.is c.run.ensures
+pub returns-in-Ok : goal.returns-in-Ok
+returns-in-Ok c = turn_ran _ _ _ _ _ _ c.check_turn.ensures c.in-Ok.is c.run.ensures
