@@ -7,7 +7,7 @@ ghost use Rattle.setup.specs.Bandwidth.{Usable};
 ghost use Rattle.setup.specs.Data.{trusted_data};
 ghost use Rattle.setup.specs.Shape.{Shaped};
 ghost use Rattle.sweep.specs.Sweep.{new_sweep, add_values, next_location, row_after, fit_all_locations, solves_of, ending_of, RoomFor};
-ghost use Rattle.sweep.specs.Finish.{finish_of};
+ghost use Rattle.sweep.specs.Finish.{finish_of, number_of};
 
 use criterion::Summary;
 use evaluate::Values;
@@ -139,6 +139,18 @@ pub fn fit_all_locations(
 pub struct Finish {
     pub refusal: Option<Refusal>,
     pub summary: Summary,
+}
+
+impl Finish {
+    // The number that a byte call answers: 0 where no refusal was met, else the refusal's.
+    pub fn number(self) -> u32
+        ensures { result ≡ number_of self }
+    {
+        match self.refusal {
+            None => 0,
+            Some(r) => r.number(),
+        }
+    }
 }
 
 // The answer of a fit that ended so, after so many solves.
