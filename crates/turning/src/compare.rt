@@ -1,11 +1,9 @@
 // Whether two values are the same, reals by their bits.
-use criterion::Criterion;
 use golden::Bracket;
 use job::Answer;
 use kernel::GwrKernel;
 use setup::{GwrBandwidth, GwrCriterion, Setup};
 use stepping::{Job, Stage};
-use sweep::Finish;
 
 pub fn same_real(a: f64, b: f64) -> bool {
     wire::bits_of(a) == wire::bits_of(b)
@@ -35,19 +33,14 @@ fn stage_number(s: Stage) -> u32 {
         Stage::Second => 2,
         Stage::Round => 3,
         Stage::Final => 4,
-        Stage::Ended(c) => match c {
-            Criterion::Value(_) => 100,
-            Criterion::Refused(r) => 100 + r.number() % 100,
-        },
+        Stage::Ended(Ok(_)) => 100,
+        Stage::Ended(Err(r)) => 100 + r.number() % 100,
     }
 }
 
 fn stage_value(s: Stage) -> f64 {
     match s {
-        Stage::Ended(c) => match c {
-            Criterion::Value(v) => v,
-            Criterion::Refused(_) => 0.0,
-        },
+        Stage::Ended(Ok(aicc)) => aicc,
         _ => 0.0,
     }
 }
@@ -167,15 +160,7 @@ pub const WORKING: u32 = 100;
 pub fn answer_number(a: Answer) -> u32 {
     match a {
         Answer::Working => WORKING,
-        Answer::Ended(f) => finish_number(f),
+        Answer::Ended(f) => f.number(),
         Answer::Refused(r) => r.number(),
-    }
-}
-
-// The number of the refusal that a job ended with, 0 for none.
-fn finish_number(f: Finish) -> u32 {
-    match f {
-        Finish::Fitted(_) => 0,
-        Finish::Failed(r, _) => r.number(),
     }
 }

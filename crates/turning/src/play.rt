@@ -6,8 +6,9 @@ use crate::made::Case;
 use crate::tally::Tally;
 use crate::{compare, lend, made};
 use criterion::Summary;
-use gwr::{Fit, FitAnswer};
+use gwr::Fit;
 use job::Answer;
+use refusal::Refusal;
 use setup::GwrOptions;
 use starting::Beginning;
 use stepping::Job;
@@ -85,11 +86,10 @@ fn play_data(
 }
 
 // How a fit ended. Only rejected fits have the numbers 1 to 13, and they have no summary.
-fn ending_of(fit: Fit) -> Ending {
-    let answer = fit.answer;
-    match answer {
-        FitAnswer::Done(f) => ending_with(f),
-        FitAnswer::Rejected(r) => Ending {
+fn ending_of(fit: Result<Fit, Refusal>) -> Ending {
+    match fit {
+        Ok(fit) => summed(fit.finish.number(), fit.finish.summary),
+        Err(r) => Ending {
             number: r.number(),
             bandwidth: 0.0,
             aicc: 0.0,
@@ -99,13 +99,6 @@ fn ending_of(fit: Fit) -> Ending {
 }
 
 // The end of a fit that was made.
-fn ending_with(f: Finish) -> Ending {
-    match f {
-        Finish::Fitted(s) => summed(0, s),
-        Finish::Failed(r, s) => summed(r.number(), s),
-    }
-}
-
 fn summed(number: u32, s: Summary) -> Ending {
     Ending {
         number,
@@ -218,10 +211,7 @@ fn answered_so(answer: Answer, want: u32, steps: u32, fit: Ending, seen: Seen) -
 
 // Whether a list ended as the fit did.
 fn finished_so(f: Finish, fit: Ending, seen: Seen) -> bool {
-    match f {
-        Finish::Fitted(s) => compare::both(fit.number == 0, ended_so(fit, s, seen)),
-        Finish::Failed(r, s) => compare::both(r.number() == fit.number, ended_so(fit, s, seen)),
-    }
+    compare::both(f.number() == fit.number, ended_so(fit, f.summary, seen))
 }
 
 // Whether a list ended with the fit's rows and summary, and its turns made as many steps as the fit made solves.

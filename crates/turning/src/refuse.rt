@@ -2,7 +2,6 @@
 use crate::compare;
 use crate::compare::WORKING;
 use crate::tally::Tally;
-use criterion::Criterion;
 use golden::Bracket;
 use kernel::GwrKernel;
 use setup::{GwrBandwidth, GwrOptions, Setup};
@@ -107,7 +106,7 @@ fn stage_of(stage: u32) -> Stage {
         2 => Stage::Second,
         3 => Stage::Round,
         4 => Stage::Final,
-        _ => Stage::Ended(Criterion::Value(1.0)),
+        _ => Stage::Ended(Ok(1.0)),
     }
 }
 
