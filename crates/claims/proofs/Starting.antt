@@ -7,7 +7,7 @@ use borrow.Author.Tests.{eq-eqb, le-ltb}
 use lib.ListN.{length}
 use lib.Ieee.{Float}
 use Rattle.checks.specs.declared.Check.TheVariants as check
-use Rattle.claims.specs.Words.{judge, GwrBandwidth, Fixed, AdaptiveKnn, GwrOptions, Setup, Data, trust_count, setup_of, Sized, Bracket, Plan, Acceptance, value_tests, output_tests, lengths_fit, plan_of, accept_of, planned, answered, gwr_fit, Stage, First, Final, Job, fresh_job, OfKind, TrialsAt, Sound, start_job, begun_with, begin_of, lent_tests}
+use Rattle.claims.specs.Words.{judge, GwrBandwidth, Fixed, AdaptiveKnn, GwrOptions, Setup, Data, trust_count, setup_of, Sized, Bracket, Plan, Acceptance, value_tests, output_tests, lengths_fit, plan_of, accept_of, planned, fitted, answered, gwr_fit, Stage, First, Final, Job, fresh_job, OfKind, TrialsAt, Sound, start_job, begun_with, begin_of, lent_tests}
 use Rattle.claims.proofs.Laws.{Serves, accept_planned, Accepted, kind_at, Holds}
 use Rattle.plan.specs.declared.Plan.TheVariants as plan
 use Rattle.plan.specs.declared.Acceptance.TheVariants as acceptance
@@ -44,7 +44,7 @@ module _ (d : Data) (p : ℕ) (o : GwrOptions) (out : List Float) where
     pub accepted : Accepted d p o (length out)
     pub plan : accept_of d p o (length out) ≡ acceptance.Planned own
     pub job : (begin_of d p o (length out)).job ≡ start_job u own
-    pub fit : gwr_fit d p o out ≡ planned own u d out
+    pub fit : gwr_fit d p o out ≡ fitted (planned own u d out)
     pub holds : Holds u (length out) ((begin_of d p o (length out)).job, out)
 
   with_plan : (q : Plan) → accept_of d p o (length out) ≡ acceptance.Planned q → Started
