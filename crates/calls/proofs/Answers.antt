@@ -1,4 +1,5 @@
 -- The fit call's parts, one law for each arm of the code.
+use Rattle.std.specs.Prelude.{Result, Ok, Err, IfOk}
 use mathlib.Core.Path.{◌≡◌, refl, sym, ap, subst, ◌∙◌}
 use mathlib.Core.Bool.{Bool, true, false, cond}
 use mathlib.Core.List.{List}
@@ -13,42 +14,16 @@ use Rattle.real.specs.Reals.{zero64, one64}
 use Rattle.wire.specs.Wire.{reals, real_bytes, placed}
 use Rattle.refusal.specs.declared.Refusal.{Refusal}
 use Rattle.refusal.specs.Numbers.{refusal_number}
-use Rattle.criterion.specs.declared.Summary.{Summary}
 use Rattle.setup.specs.declared.GwrOptions.{GwrOptions}
 use Rattle.setup.specs.Data.{Data, trusted_data, trusting}
-use Rattle.sweep.specs.declared.Finish.{Finish}
-use Rattle.sweep.specs.declared.Finish.TheVariants.{Fitted, Failed}
-use Rattle.gwr.specs.declared.FitAnswer.{FitAnswer}
-use Rattle.gwr.specs.declared.FitAnswer.TheVariants.{Done, Rejected}
+use Rattle.sweep.specs.Finish.{number_of}
 use Rattle.gwr.specs.declared.Fit.{Fit}
-use Rattle.gwr.specs.Fit.{gwr_fit}
-use Rattle.calls.specs.Calls.{AfterCall, placed_rows, answer_bytes, fitted_bytes, fit_parts, room_of, summary_bytes, Writable, Roomy, Offered}
-use Rattle.gwr.proofs.Bounds.{Sound, Fits, fits}
+use Rattle.gwr.specs.Fit.{gwr_fit, rows_of}
+use Rattle.calls.specs.Calls.{AfterCall, placed_rows, fitted_bytes, fit_parts, room_of, summary_bytes, Offered}
+use Rattle.gwr.proofs.Bounds.{Made, Fits, fits}
 
 pub triple : {n m : ℕ} {a b c d : List ℕ} → n ≡ m → a ≡ b → c ≡ d → ◌≡◌ {A = AfterCall} (n, (a, c)) (m, (b, d))
 triple p q r = cc
-
--- ---- an answer's bytes
-
-module _ (a : FitAnswer) (rows : List Float) (out summary : List ℕ) where
-  abbrev after : FitAnswer → AfterCall
-  after z = answer_bytes z rows out summary
-
-  pub answer_rejected : (r : Refusal) (n : ℕ) → a ≡ Rejected r → n ≡ refusal_number r → ◌≡◌ {A = AfterCall} (n, (out, summary)) (after a)
-  answer_rejected r n e i = triple i refl refl ∙ sym (ap (λ (z : FitAnswer). after z) e)
-
-  -- a fit that was made
-  module _ (f : Finish) (v : Summary) (out' summary' : List ℕ) (done : a ≡ Done f) (o : out' ≡ placed out 0 (real_bytes rows)) (s : summary' ≡ placed summary 0 (summary_bytes v)) where
-    pub answer_failed : (r : Refusal) (n : ℕ) → f ≡ Failed r v → n ≡ refusal_number r → ◌≡◌ {A = AfterCall} (n, (out', summary')) (after a)
-    unfolding placed_rows
-    answer_failed r n e i = triple i o s ∙ sym (ap (λ (z : FitAnswer). after z) (done ∙ ap (λ (g : Finish). Done g) e))
-
-    pub answer_fitted : f ≡ Fitted v → ◌≡◌ {A = AfterCall} (0, (out', summary')) (after a)
-    unfolding placed_rows
-    answer_fitted e = triple refl o s ∙ sym (ap (λ (z : FitAnswer). after z) (done ∙ ap (λ (g : Finish). Done g) e))
-
-pub answer_writable : (a : FitAnswer) (f : Finish) (count rows out summary : ℕ) → a ≡ Done f → Roomy a count rows out summary → Writable count rows out summary
-answer_writable a f count rows out summary e h = subst (λ (z : FitAnswer). Roomy z count rows out summary) e h
 
 -- ---- the room of a fit: at most what the output's bytes allow, and none without the summary's
 
@@ -86,26 +61,33 @@ module _ (n p out summary room : ℕ) (e : room ≡ room_of n p out summary) whe
   offered rows i =
       record { bytes = omega (arith, room_bytes n p out summary, e, i); whole = λ h. room_summary n p out summary (omega (arith, h, e, i)) }
 
--- ---- the fit into an output of which its bytes have room
+-- ---- the bytes after a fit
 
-roomy : (a : FitAnswer) (n r room count rows out summary : ℕ) → Sound a r n room → count ≤ rows → 8 * count ≤ out → (1 ≤ room → 24 ≤ summary) → Roomy a count rows out summary
-roomy (Done (Fitted v)) n r room count rows out summary w h k s = record { there = h; bytes = k; whole = s w.0 }
-roomy (Done (Failed q v)) n r room count rows out summary w h k s = record { there = h; bytes = k; whole = s w.0 }
-roomy (Rejected q) n r room count rows out summary w h k s = tt
+module _ (d : Data) (p : ℕ) (o : GwrOptions) (out : List Float) (z : Result Fit Refusal) (after : List Float) (e : ◌≡◌ {A = Result Fit Refusal × List Float} (z, after) (gwr_fit d p o out)) (bytes summary : List ℕ) where
+  abbrev call : Result Fit Refusal × List Float → AfterCall
+  call g = fitted_bytes p g bytes summary
 
-module _ (d : Data) (p : ℕ) (o : GwrOptions) (out : List Float) (f : Fit) (after : List Float) (e : ◌≡◌ {A = Fit × List Float} (f, after) (gwr_fit d p o out)) where
-  sound : Fits (length d.coords / 2) p (length out) (f, after)
-  sound = subst (λ (g : Fit × List Float). Fits (length d.coords / 2) p (length out) g) (sym e) (fits d p o out)
+  sound : Fits (length d.coords / 2) p (length out) (z, after)
+  sound = subst (λ (g : Result Fit Refusal × List Float). Fits (length d.coords / 2) p (length out) g) (sym e) (fits d p o out)
 
-  pub rows_fit : f.rows * (p + 4) ≤ length out
-  rows_fit = sound.rows
+  -- a fit that was made: its rows are within the output, whose bytes have room, and so has its summary
+  module _ (f : Fit) (made : z ≡ Ok f) where
+    pub rows_fit : f.rows * (p + 4) ≤ length out
+    rows_fit = subst (λ (y : Result Fit Refusal). rows_of y * (p + 4) ≤ length out) made sound.rows
 
-  pub answer_roomy : (rows bytes summary : ℕ) → rows ≡ length out → Offered (length out) bytes summary → Roomy f.answer (f.rows * (p + 4)) rows bytes summary
-  answer_roomy rows bytes summary n r =
-      roomy f.answer (length d.coords / 2) f.rows (length out) (f.rows * (p + 4)) rows bytes summary sound.sound (omega (arith, sound.rows, n)) (omega (arith, sound.rows, r.bytes)) r.whole
+    pub rows_long : length after ≡ length out
+    rows_long = sound.long
 
-  pub fitted_is : (bytes summary : List ℕ) (a : AfterCall) → a ≡ answer_bytes f.answer (take (f.rows * (p + 4)) after) bytes summary → a ≡ fitted_bytes p (gwr_fit d p o out) bytes summary
-  fitted_is bytes summary a h = h ∙ ap (λ (g : Fit × List Float). fitted_bytes p g bytes summary) e
+    pub fit_some : 1 ≤ length out
+    fit_some = (subst (λ (y : Result Fit Refusal). IfOk y (λ g. Made (length d.coords / 2) (length out) g)) made sound.sound).some
+
+    pub fitted_is : (bytes' summary' : List ℕ) (number : ℕ) → bytes' ≡ placed bytes 0 (real_bytes (take (f.rows * (p + 4)) after)) → summary' ≡ placed summary 0 (summary_bytes f.finish.summary)
+        → number ≡ number_of f.finish → ◌≡◌ {A = AfterCall} (number, (bytes', summary')) (call (gwr_fit d p o out))
+    unfolding placed_rows
+    fitted_is bytes' summary' number b s n = triple n b s ∙ sym (ap (λ (y : Result Fit Refusal). call (y, after)) made) ∙ ap call e
+
+  pub fitted_refused : (r : Refusal) (number : ℕ) → z ≡ Err r → number ≡ refusal_number r → ◌≡◌ {A = AfterCall} (number, (bytes, summary)) (call (gwr_fit d p o out))
+  fitted_refused r number refused n = triple n refl refl ∙ sym (ap (λ (y : Result Fit Refusal). call (y, after)) refused) ∙ ap call e
 
 -- every trust set to 1
 pub trusting_is : (c' x' y' t : List Float) → t ≡ replicate (length y') one64 → (p : ℕ) (o : GwrOptions) (z : List Float) (out summary : List ℕ) (a : AfterCall)

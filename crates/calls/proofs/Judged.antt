@@ -1,4 +1,5 @@
 -- The fit call goes by its list of tests: what the code's ladder does is what the list says.
+use Rattle.std.specs.Prelude.{Result}
 use mathlib.Core.Path.{◌≡◌, refl, sym, ap, ◌∙◌}
 use mathlib.Core.Bool.{Bool, true, false, cond, ◌||◌}
 use mathlib.Core.List.{List, ◌∷◌, ◌++◌, append_assoc}
@@ -121,7 +122,7 @@ module _ (coords x y : List ℕ) (p : ℕ) (out summary : List ℕ) where
 
       go : (k : Check) → judge (rest o) ≡ k → fitted_bytes p (gwr_fit (numbers_of coords x y p) p o (replicate room zero64)) out summary ≡ ruled (judge (rest o)) refuse (given o)
       go (Err r) e =
-          ap (λ (f : Fit × List Float). fitted_bytes p f out summary) ((fit_decides (numbers_of coords x y p) p o (replicate room zero64)).refused r (fits ∙ e)) ∙ sym (ruled_refused refuse (given o) e)
+          ap (λ (f : Result Fit Refusal × List Float). fitted_bytes p f out summary) ((fit_decides (numbers_of coords x y p) p o (replicate room zero64)).refused r (fits ∙ e)) ∙ sym (ruled_refused refuse (given o) e)
       go (Ok passed) e =
           let behind = (none_append (value_tests (numbers_of coords x y p)) _ (none_head _ _ _ e).1).1 in
           let enough = room_enough n p (length out) (length summary) (none_head _ _ _ behind).0 in

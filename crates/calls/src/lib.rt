@@ -3,17 +3,15 @@
 
 ghost use Rattle.std.specs.Prelude.{◌≡◌, ◌+◌, ◌*◌, ◌/◌, ◌≤◌, ◌<◌, length, take};
 ghost use Rattle.wire.specs.Wire.{real_bytes, placed};
-ghost use Rattle.calls.specs.Calls.{room_of, summary_bytes, answer_bytes, fitted_bytes, fit_parts, fit_bytes, Roomy, Offered};
+ghost use Rattle.calls.specs.Calls.{room_of, summary_bytes, fitted_bytes, fit_parts, fit_bytes, Offered};
 ghost use Rattle.request.specs.Answer.{answer_number};
 ghost use Rattle.request.specs.Lengths.{ByteLengths};
 ghost use Rattle.setup.specs.Data.{trusting};
 ghost use Rattle.gwr.specs.Fit.{gwr_fit};
 
 use criterion::Summary;
-use gwr::FitAnswer;
 use refusal::Refusal;
 use setup::GwrOptions;
-use sweep::Finish;
 
 // How many numbers the fit may write: n rows, or none where output or summary has too few bytes.
 fn room_of(n: usize, p: usize, out: usize, summary: usize) -> usize
@@ -46,35 +44,8 @@ fn store_rows(rows: &[f64], count: usize, out: &mut [u8])
     wire::encode(rows, out, count);
 }
 
-// What an answer refuses; rows and summary go out as bytes, unless the input was refused.
-fn answer_bytes(
-    answer: FitAnswer,
-    rows: &[f64],
-    count: usize,
-    out: &mut [u8],
-    summary: &mut [u8],
-) -> Result<(), Refusal>
-    requires { Roomy answer count (length rows.now) (length out.old) (length summary.old) }
-    ensures { (answer_number result, (out.new, summary.new)) ≡ answer_bytes answer (take count rows.now) out.old summary.old }
-{
-    match answer {
-        FitAnswer::Rejected(r) => Err(r),
-        FitAnswer::Done(finish) => match finish {
-            Finish::Failed(r, v) => {
-                store_rows(rows, count, out);
-                store_summary(summary, v);
-                Err(r)
-            }
-            Finish::Fitted(v) => {
-                store_rows(rows, count, out);
-                store_summary(summary, v);
-                Ok(())
-            }
-        },
-    }
-}
-
-// The fit of decoded numbers, every observation fully trusted, with `rows` as its output.
+// The fit of decoded numbers, every observation fully trusted, with `rows` as its output. Rows and summary go out as bytes, unless
+// the input was refused.
 fn fitted_bytes(
     places: &[f64],
     predictors: &[f64],
@@ -91,9 +62,13 @@ fn fitted_bytes(
 {
     let ones = [1.0; 512];
     let trust = &ones[..responses.len()];
-    let fit = gwr::gwr_fit(places, predictors, responses, trust, p, options, &mut *rows);
-    let answer = fit.answer;
-    answer_bytes(answer, &*rows, fit.rows * (p + 4), out, summary)
+    let fit = gwr::gwr_fit(places, predictors, responses, trust, p, options, &mut *rows)?;
+    store_rows(&*rows, fit.rows * (p + 4), out);
+    store_summary(summary, fit.finish.summary);
+    match fit.finish.refusal {
+        Some(r) => Err(r),
+        None => Ok(()),
+    }
 }
 
 // The fit of slices of the right lengths.

@@ -7,7 +7,7 @@ use borrow.Author.Tests.{eq-eqb, le-ltb}
 use lib.ListN.{length}
 use lib.Ieee.{Float}
 use Rattle.std.specs.Prelude.{Ok, Err}
-use Rattle.claims.specs.Words.{judge, GwrBandwidth, Fixed, AdaptiveKnn, GwrOptions, Setup, Data, trust_count, setup_of, Sized, Bracket, Plan, Acceptance, value_tests, output_tests, lengths_fit, plan_of, accept_of, planned, answered, gwr_fit, Stage, First, Final, Job, fresh_job, OfKind, TrialsAt, Sound, start_job, begun_with, begin_of, lent_tests}
+use Rattle.claims.specs.Words.{judge, GwrBandwidth, Fixed, AdaptiveKnn, GwrOptions, Setup, Data, trust_count, setup_of, Sized, Bracket, Plan, Acceptance, value_tests, output_tests, lengths_fit, plan_of, accept_of, planned, answered, gwr_fit, Stage, First, Final, Job, fresh_job, OfKind, TrialsAt, Sound, start_job, begun_with, begin_of, lent_tests, fitted}
 use Rattle.claims.proofs.Laws.{Serves, accept_planned, Accepted, kind_at, Holds}
 use Rattle.plan.specs.declared.Plan.TheVariants as plan
 use Rattle.std.specs.Prelude.{Result, Ok, Err}
@@ -44,7 +44,7 @@ module _ (d : Data) (p : ℕ) (o : GwrOptions) (out : List Float) where
     pub accepted : Accepted d p o (length out)
     pub plan : accept_of d p o (length out) ≡ Ok own
     pub job : j ≡ start_job u own
-    pub fit : gwr_fit d p o out ≡ planned own u d out
+    pub fit : gwr_fit d p o out ≡ fitted (planned own u d out)
     pub holds : Holds u (length out) (j, out)
 
   with_plan : (q : Plan) (j : Job) → accept_of d p o (length out) ≡ Ok q → ◌≡◌ {A = Result Job Refusal} (Ok (start_job u q)) (Ok j) → Started j

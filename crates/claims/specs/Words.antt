@@ -52,12 +52,10 @@ unfoldable pub use Rattle.evaluate.specs.Evaluate.{squares_step, sum_squares, lo
 pub use Rattle.evaluate.specs.declared.Values.{Values}
 unfoldable pub use Rattle.row.specs.Row.{put_row, row_of}
 unfoldable pub use Rattle.local.specs.Solve.{solve_location, outcome_of, solve_local}
-pub use Rattle.local.specs.declared.Outcome.{Outcome}
 pub use Rattle.local.specs.declared.Solved.{Solved}
 pub use Rattle.criterion.specs.Aicc.{failed_summary, pi64}
 unfoldable pub use Rattle.criterion.specs.Aicc.{corrected_aic, score_of, exhausted}
 unfoldable pub use Rattle.criterion.specs.Published.{deviation, freedom, aicc_published, aicc_formula}
-pub use Rattle.criterion.specs.declared.Criterion.{Criterion}
 pub use Rattle.golden.specs.Golden.{no_bracket, first_of, G, G2, goes_left}
 unfoldable pub use Rattle.golden.specs.Golden.{narrow_of, start_of, second_of, aim_of, tight_of, inv_phi, inv_phi2}
 pub use Rattle.golden.specs.Kiefer.{Span, SearchInside, Inside, Framed, KieferRound, Narrowed, Valley, ScoredBy, Follows}
@@ -75,8 +73,6 @@ pub use Rattle.plan.specs.declared.Plan.TheVariants.{Settled, Sought}
 pub use Rattle.sweep.specs.Finish.{finish_of}
 pub use Rattle.sweep.specs.Sweep.{row_after, add_values, next_location, new_sweep, after_solve, row_found, visit_at, solves_after, ending_at, solves_of, ending_of, sweep_of}
 unfoldable pub use Rattle.sweep.specs.Sweep.{visit, fit_all_locations}
-pub use Rattle.sweep.specs.declared.Course.{Course}
-pub use Rattle.sweep.specs.declared.Course.TheVariants.{Going, Stopped}
 pub use Rattle.sweep.specs.declared.Sweep.{Sweep}
 pub use Rattle.sweep.specs.declared.Swept.{Swept}
 pub use Rattle.search.specs.Literal.{Variables, before_loop}
@@ -88,10 +84,9 @@ unfoldable pub use Rattle.search.specs.Trial.{trial_of}
 pub use Rattle.search.specs.declared.Optimum.{Optimum}
 pub use Rattle.search.specs.declared.Search.{Search}
 pub use Rattle.search.specs.declared.Trial.{Trial}
-pub use Rattle.gwr.specs.Fit.{fit_from, answered, planned}
+pub use Rattle.gwr.specs.Fit.{fit_from, fitted, answered, planned, rows_of}
 unfoldable pub use Rattle.gwr.specs.Fit.{final_of, gwr_fit, sought_of}
 pub use Rattle.gwr.specs.declared.Fit.{Fit}
-pub use Rattle.gwr.specs.declared.FitAnswer.{FitAnswer}
 pub use Rattle.stepping.specs.Sound.{OfKind, TrialsAt, Sound}
 pub use Rattle.stepping.specs.Step.{is_over, is_ended, is_final, solve_of, fresh_job, by_stage, is_last_round, close_at, solved_job, after_outcome}
 unfoldable pub use Rattle.stepping.specs.Step.{step_job, step_out, step_of, close_job, pass_job}

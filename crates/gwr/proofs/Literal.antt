@@ -28,7 +28,7 @@ use Rattle.search.specs.Trial.{trial_of}
 use Rattle.search.specs.Search.{golden_of, optimize_bandwidth}
 use Rattle.search.specs.Literal.{golden_section_min}
 use Rattle.search.proofs.Literal.{golden_literal}
-use Rattle.gwr.specs.Fit.{final_of, sought_of, answered, gwr_fit}
+use Rattle.gwr.specs.Fit.{final_of, sought_of, fitted, answered, gwr_fit}
 
 -- A search that is accepted has lo below hi, so that 000's `if a >= b` does not hold
 
@@ -74,8 +74,8 @@ module _ (d : Data) (p : ℕ) (o : GwrOptions) where
   -- so the fit of a searched job is 000's: a final fit at the point that `golden_section_min` finds
   pub fit_literal : (out : List Float) (lo hi : Float) → accept_of d p o (length out) ≡ Ok (Sought lo hi) →
       let m = golden_section_min (trial_of u d) lo hi in
-      gwr_fit d p o out ≡ final_of u d (bandwidth_at u m.0) m.1 out
+      gwr_fit d p o out ≡ fitted (final_of u d (bandwidth_at u m.0) m.1 out)
   unfolding gwr_fit sought_of optimize_bandwidth
   fit_literal out lo hi e =
       ap (λ (a : Acceptance). answered a u d out) e
-      ∙ ap (λ (m : Float × ℕ). final_of u d (bandwidth_at u m.0) m.1 out) (sought_literal (length out) lo hi e)
+      ∙ ap (λ (m : Float × ℕ). fitted (final_of u d (bandwidth_at u m.0) m.1 out)) (sought_literal (length out) lo hi e)

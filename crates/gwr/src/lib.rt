@@ -13,17 +13,10 @@ use refusal::Refusal;
 use setup::{GwrBandwidth, GwrOptions, Setup};
 use sweep::Finish;
 
-// What a fit answers. A refusal from the input comes with nothing written; one met while solving keeps the rows before it.
-#[derive(Clone, Copy)]
-pub enum FitAnswer {
-    Done(Finish),
-    Rejected(Refusal),
-}
-
-// The answer, and the number of rows written.
+// What a fit that was made answers, and the number of rows written. A refusal met while solving keeps the rows before it.
 #[derive(Clone, Copy)]
 pub struct Fit {
-    pub answer: FitAnswer,
+    pub finish: Finish,
     pub rows: usize,
 }
 
@@ -44,13 +37,9 @@ fn final_of(
     ensures { (result, out.new) ≡ final_of u (trusted_data coords.now x.now y.now trust.now) b before out.old }
 {
     let s = sweep::fit_all_locations(coords, x, y, trust, u, b, true, out);
-    let reached = s.sweep;
-    let ending = s.ending(u);
-    let solves = s.solves();
-    let finish = sweep::finish_of(ending, b, before + solves);
     Fit {
-        answer: FitAnswer::Done(finish),
-        rows: reached.location,
+        finish: sweep::finish_of(s.ending(u), b, before + s.solves()),
+        rows: s.sweep.location,
     }
 }
 
@@ -70,11 +59,11 @@ fn sought_of(
     ensures { (result, out.new) ≡ sought_of u (trusted_data coords.now x.now y.now trust.now) lo hi out.old }
 {
     let found = search::optimize_bandwidth(coords, x, y, trust, u, lo, hi);
-    let b = found.bandwidth;
-    final_of(coords, x, y, trust, u, b, found.solves, out)
+    final_of(coords, x, y, trust, u, found.bandwidth, found.solves, out)
 }
 
-// 000's `gwr_fit`: the fit of n observations of p predictors each, n being half the number of coordinates.
+// 000's `gwr_fit`: the fit of n observations of p predictors each, n being half the number of coordinates. A refusal from the
+// input is an Err, and comes with nothing written.
 pub fn gwr_fit(
     coords: &[f64],
     x: &[f64],
@@ -83,17 +72,14 @@ pub fn gwr_fit(
     p: usize,
     options: GwrOptions,
     out: &mut [f64],
-) -> Fit
+) -> Result<Fit, Refusal>
     ensures { (result, out.new) ≡ gwr_fit (trusted_data coords.now x.now y.now trust.now) p options out.old }
 {
     let n = coords.len() / 2;
     let u = Setup { options, n, p };
     match plan::accept(coords, x, y, trust, p, options, out.len()) {
-        Err(r) => Fit {
-            answer: FitAnswer::Rejected(r),
-            rows: 0,
-        },
-        Ok(Plan::Settled(b)) => final_of(coords, x, y, trust, u, b, 0, out),
-        Ok(Plan::Sought(lo, hi)) => sought_of(coords, x, y, trust, u, lo, hi, out),
+        Err(r) => Err(r),
+        Ok(Plan::Settled(b)) => Ok(final_of(coords, x, y, trust, u, b, 0, out)),
+        Ok(Plan::Sought(lo, hi)) => Ok(sought_of(coords, x, y, trust, u, lo, hi, out)),
     }
 }

@@ -1,4 +1,5 @@
 -- The tests of a turn one after the other, the arms of its code, and what a turn may count on.
+use Rattle.std.specs.Prelude.{Result}
 use mathlib.Core.Path.{◌≡◌, refl, sym, ap, subst⁻¹, ◌∙◌}
 use mathlib.Core.Bool.{Bool, true, false, not}
 use mathlib.Core.List.{List}
@@ -15,7 +16,6 @@ use Rattle.setup.specs.declared.Setup.{Setup}
 use Rattle.setup.specs.Bandwidth.{Usable}
 use Rattle.setup.specs.Data.{Data}
 use Rattle.setup.specs.Shape.{Shaped}
-use Rattle.criterion.specs.declared.Criterion.{Criterion}
 use Rattle.checks.specs.Judge.{Check, judge, ruled, NoneOf, Decides}
 use Rattle.checks.proofs.Judge.{ruled_refused, ruled_pass, judge_append, first_here, judge_rest, none_head, none_append, decides}
 use Rattle.input.specs.Checks.{output_tests, value_tests, room_tests, lengths_fit}
@@ -102,9 +102,9 @@ module _ (j : Job) (d : Data) (out : List Float) (a : ℕ) where
 
 -- ---- what a job says of itself
 
-pub answer_ended : (x : Stage) (c : Criterion) (b : GwrBandwidth) (k : ℕ) (f : Finish) → x ≡ Ended c → f ≡ finish_of c b k
-    → answer.Ended f ≡ by_stage answer.Working answer.Working (λ (z : Criterion). answer.Ended (finish_of z b k)) x
-answer_ended x c b k f e h = ap answer.Ended h ∙ sym (ap (by_stage answer.Working answer.Working (λ (z : Criterion). answer.Ended (finish_of z b k))) e)
+pub answer_ended : (x : Stage) (c : Result Float Refusal) (b : GwrBandwidth) (k : ℕ) (f : Finish) → x ≡ Ended c → f ≡ finish_of c b k
+    → answer.Ended f ≡ by_stage answer.Working answer.Working (λ (z : Result Float Refusal). answer.Ended (finish_of z b k)) x
+answer_ended x c b k f e h = ap answer.Ended h ∙ sym (ap (by_stage answer.Working answer.Working (λ (z : Result Float Refusal). answer.Ended (finish_of z b k))) e)
 
 pub tell_is : (j : Job) (steps : ℕ) (r : Answer) → r ≡ answer_at j.stage j → ◌≡◌ {A = Turned} (record { answer = r; steps = steps; job = j }) (tell_of j steps)
 tell_is j steps r e = ap (λ (x : Answer). record { answer = x; steps = steps; job = j }) e

@@ -35,8 +35,7 @@ fn check_turn(j: Job, coords: &[f64], x: &[f64], y: &[f64], trust: &[f64], out: 
     if !is_fit(j) {
         return Err(Refusal::UnfitRecord);
     }
-    let stage = j.stage;
-    if stage.is_ended() {
+    if j.stage.is_ended() {
         return Err(Refusal::AlreadyEnded);
     }
     check_lent(coords, x, y, trust, j.setup, out)
@@ -47,13 +46,9 @@ fn answer_at(stage: Stage, j: Job) -> Answer
     requires { Usable j.bandwidth }
     ensures { result ≡ answer_at stage j }
 {
-    let bandwidth = j.bandwidth;
     match stage {
-        Stage::First => Answer::Working,
-        Stage::Second => Answer::Working,
-        Stage::Round => Answer::Working,
-        Stage::Final => Answer::Working,
-        Stage::Ended(ending) => Answer::Ended(sweep::finish_of(ending, bandwidth, j.solves)),
+        Stage::Ended(ending) => Answer::Ended(sweep::finish_of(ending, j.bandwidth, j.solves)),
+        _ => Answer::Working,
     }
 }
 
@@ -62,10 +57,8 @@ fn tell(j: Job, steps: u32) -> Turned
     requires { Usable j.bandwidth }
     ensures { result ≡ tell_of j steps }
 {
-    let stage = j.stage;
-    let answer = answer_at(stage, j);
     Turned {
-        answer,
+        answer: answer_at(j.stage, j),
         steps,
         job: j,
     }
@@ -90,8 +83,7 @@ fn run(
     let mut left = allowance;
     let mut made = 0u32;
     while left > 0 {
-        let stage = k.stage;
-        if stage.is_ended() {
+        if k.stage.is_ended() {
             return tell(k, made);
         }
         k = k.step(coords, x, y, trust, &mut *out);

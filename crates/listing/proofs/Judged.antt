@@ -1,4 +1,5 @@
 -- What is printed goes by one list of tests: a refusal's line where one holds, and else the text of the fit of the numbers.
+use Rattle.std.specs.Prelude.{Result, IfOk}
 use mathlib.Core.Path.{◌≡◌, refl, sym, ap, subst, ◌∙◌}
 use mathlib.Core.Bool.{Bool, false}
 use mathlib.Core.List.{List, ◌∷◌, ◌++◌}
@@ -25,7 +26,7 @@ use Rattle.checks.proofs.Judge.{ruled_append, ruled_refused, ruled_pass, judge_a
 use Rattle.input.specs.Checks.{value_tests, option_tests, fit_tests}
 use Rattle.gwr.specs.declared.Fit.{Fit}
 use Rattle.gwr.specs.Fit.{gwr_fit}
-use Rattle.gwr.proofs.Bounds.{Sound, fits}
+use Rattle.gwr.proofs.Bounds.{Made, fits}
 use Rattle.request.specs.Options.{options_of, is_unknown}
 use Rattle.calls.specs.Calls.{numbers_of, lent_too_short, number_tests, call_tests, AfterCall, refused_call, fitted_bytes, numbers_fit, fit_bytes}
 use Rattle.request.specs.Lengths.{byte_tests, ByteLengths}
@@ -160,8 +161,8 @@ module _ (h : Head) (parts : List ℕ) (known : is_unknown (options_of h.kernel 
             let rows = replicate (n * (p + 4)) zero64 in
             let g = fits (data_in h parts) p o rows in
             let half : length (reals parts (2 * n)) / 2 ≡ n = omega (arith, length_reals parts (2 * n)) in
-            answer_text_lem n (p + 4) (fit_in h parts).1 out summary (g.long ∙ length-replicate (n * (p + 4)) zero64) (fit_in h parts).0.answer (fit_in h parts).0.rows (length rows)
-            (subst (λ (k : ℕ). Sound (fit_in h parts).0.answer (fit_in h parts).0.rows k (length rows)) half g.sound)
+            answer_text_lem n (p + 4) (fit_in h parts).1 out summary (g.long ∙ length-replicate (n * (p + 4)) zero64) (fit_in h parts).0 (length rows)
+            (subst (λ (k : ℕ). IfOk (fit_in h parts).0 (λ f. Made k (length rows) f)) half g.sound)
 
         go : (k : Check) → judge (data_tests h parts) ≡ k → answer_text (fit_bytes A B D p h.kernel h.kind h.bandwidth out summary) n (p + 4) ≡ ruled (judge (data_tests h parts)) refused_text (text_of_fit h parts)
         go (Err r) e =
@@ -169,7 +170,7 @@ module _ (h : Head) (parts : List ℕ) (known : is_unknown (options_of h.kernel 
             ∙ sym (refused_text_lem (refused_call r out summary) n (p + 4) (numbered r).some)
             ∙ sym (ruled_refused refused_text (text_of_fit h parts) e)
         go (Ok passed) e =
-            ap (λ (a : AfterCall). answer_text a n (p + 4)) (call.served (call_judged ∙ e) ∙ ap (λ (g : Fit × List Float). fitted_bytes p g out summary) fit_same)
+            ap (λ (a : AfterCall). answer_text a n (p + 4)) (call.served (call_judged ∙ e) ∙ ap (λ (g : Result Fit Refusal × List Float). fitted_bytes p g out summary) fit_same)
             ∙ fit_text_lem
             ∙ sym (ruled_pass refused_text (text_of_fit h parts) e)
 

@@ -19,8 +19,8 @@ use Rattle.estimate.specs.declared.Estimate.{Estimate}
 use Rattle.estimate.specs.declared.Estimate.TheVariants.{Fitted, Failed}
 use Rattle.estimate.specs.declared.Estimated.{Estimated}
 use Rattle.evaluate.specs.declared.Values.{Values}
-use Rattle.local.specs.declared.Outcome.{Outcome}
-use Rattle.local.specs.declared.Outcome.TheVariants.{Found, Refused}
+use Rattle.local.specs.declared.Solved.{Solved}
+use Rattle.std.specs.Prelude.{Result, Ok, Err}
 use Rattle.estimate.specs.Inverse.{inverse_finite}
 use Rattle.estimate.specs.Estimate.{refused_with, coefficients_finite, coefficients_of, from_inverse, eliminated_of, coefficients_under, fit_coefficients}
 use Rattle.neighbours.specs.Bandwidth.{local_bandwidth_distance}
@@ -35,11 +35,11 @@ abbrev pub AtLocation : Refusal → Type 0
 AtLocation r = (r ≡ WeightSumNotPositive) ⊎ AtFit r
 
 -- an outcome that is found, or refused so
-abbrev pub OutcomeBy : (Refusal → Type 0) → Outcome → Type 0
-OutcomeBy P (Found v) = Unit {0}
-OutcomeBy P (Refused r) = P r
+abbrev pub OutcomeBy : (Refusal → Type 0) → Result Solved Refusal → Type 0
+OutcomeBy P (Ok s) = Unit {0}
+OutcomeBy P (Err r) = P r
 
-abbrev pub OutcomeAt : Outcome → Type 0
+abbrev pub OutcomeAt : Result Solved Refusal → Type 0
 OutcomeAt o = OutcomeBy AtLocation o
 
 abbrev EstimateBy : (Refusal → Type 0) → Estimate → Type 0
@@ -57,10 +57,10 @@ under_at : (u : Setup) (d : Data) (w : Row) → At (coefficients_under u d w).0
 unfolding coefficients_under
 under_at u d w = either At (eliminated_of u d w).0 _ _ (inverse_at_lem _ _ _) (inl refl)
 
-outcome_by : (P : Refusal → Type 0) (e : Estimate) (v : Values) → EstimateBy P e → OutcomeBy P (outcome_of e v)
+outcome_by : (P : Refusal → Type 0) (e : Estimate) (v : Values) (beta : Row) → EstimateBy P e → OutcomeBy P (outcome_of e v beta)
 unfolding outcome_of
-outcome_by P Fitted v h = tt
-outcome_by P (Failed r) v h = h
+outcome_by P Fitted v beta h = tt
+outcome_by P (Failed r) v beta h = h
 
 or_weightless : (e : Estimate) → EstimateBy AtFit e → EstimateBy AtLocation e
 or_weightless Fitted h = tt
@@ -70,14 +70,14 @@ fit_at : (u : Setup) (d : Data) (w : Row) (sum : Float) → EstimateBy AtLocatio
 unfolding fit_coefficients
 fit_at u d w sum = either (λ (f : Estimated × Matrix). EstimateBy AtLocation f.0.estimate) (lt zero64 sum) _ _ (or_weightless (coefficients_under u d w).0.estimate (under_at u d w)) (inl refl)
 
-pub location_at : (u : Setup) (d : Data) (bandwidth : GwrBandwidth) (i : ℕ) → OutcomeAt (solve_location u d bandwidth i).outcome
+pub location_at : (u : Setup) (d : Data) (bandwidth : GwrBandwidth) (i : ℕ) → OutcomeAt (solve_location u d bandwidth i)
 unfolding solve_location solve_local
-location_at u d bandwidth i = outcome_by AtLocation _ _ (fit_at _ _ _ _)
+location_at u d bandwidth i = outcome_by AtLocation _ _ _ (fit_at _ _ _ _)
 
 -- where the weights sum to more than zero, 27 is not met
 pub weighed_at : (u : Setup) (d : Data) (bandwidth : GwrBandwidth) (i : ℕ) → T (lt zero64 (weights_at u d i (local_bandwidth_distance d.coords u.n i bandwidth)).1)
-    → OutcomeBy AtFit (solve_location u d bandwidth i).outcome
+    → OutcomeBy AtFit (solve_location u d bandwidth i)
 unfolding solve_location solve_local fit_coefficients
 weighed_at u d bandwidth i h =
     let s = weights_at u d i (local_bandwidth_distance d.coords u.n i bandwidth) in
-    outcome_by AtFit _ _ (subst⁻¹ (λ (b : Bool). EstimateBy AtFit (cond b (coefficients_under u d s.0) (refused_with WeightSumNotPositive, replicate 8 (replicate 16 zero64))).0.estimate) (is_true (lt zero64 s.1) h) (under_at u d s.0))
+    outcome_by AtFit _ _ _ (subst⁻¹ (λ (b : Bool). EstimateBy AtFit (cond b (coefficients_under u d s.0) (refused_with WeightSumNotPositive, replicate 8 (replicate 16 zero64))).0.estimate) (is_true (lt zero64 s.1) h) (under_at u d s.0))

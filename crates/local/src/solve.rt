@@ -5,8 +5,9 @@ ghost use Rattle.setup.specs.Data.{trusted_data};
 ghost use Rattle.setup.specs.Shape.{Shaped};
 ghost use Rattle.local.specs.Solve.{solve_local, solve_location};
 
-use crate::{Outcome, Solved};
+use crate::Solved;
 use estimate::Estimate;
+use refusal::Refusal;
 use setup::{GwrBandwidth, Setup};
 
 // 000's `solve_local`, at bandwidth distance b.
@@ -18,7 +19,7 @@ fn solve_local(
     u: Setup,
     i: usize,
     b: f64,
-) -> Solved
+) -> Result<Solved, Refusal>
     requires shaped { Shaped u (trusted_data coords.now x.now y.now trust.now) }
     requires is_location { i < u.n }
     ensures { result ≡ solve_local u (trusted_data coords.now x.now y.now trust.now) i b }
@@ -41,16 +42,10 @@ fn solve_local(
     let found = e.estimate;
     match found {
         Estimate::Fitted => {
-            let v = evaluate::values_at(coords, x, y, u, &w, i, &inverse, beta, sum);
-            Solved {
-                outcome: Outcome::Found(v),
-                beta,
-            }
+            let values = evaluate::values_at(coords, x, y, u, &w, i, &inverse, beta, sum);
+            Ok(Solved { values, beta })
         }
-        Estimate::Failed(r) => Solved {
-            outcome: Outcome::Refused(r),
-            beta,
-        },
+        Estimate::Failed(r) => Err(r),
     }
 }
 
@@ -63,7 +58,7 @@ pub fn solve_location(
     u: Setup,
     bandwidth: GwrBandwidth,
     i: usize,
-) -> Solved
+) -> Result<Solved, Refusal>
     requires shaped { Shaped u (trusted_data coords.now x.now y.now trust.now) }
     requires usable { Usable bandwidth }
     requires is_location { i < u.n }

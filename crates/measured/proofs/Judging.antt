@@ -10,11 +10,8 @@ use Rattle.setup.specs.declared.GwrCriterion.{GwrCriterion}
 use Rattle.setup.specs.declared.GwrOptions.{GwrOptions}
 use Rattle.setup.specs.Data.{Data}
 use Rattle.setup.specs.Options.{judged_by}
-use Rattle.criterion.specs.declared.Summary.{Summary}
-use Rattle.sweep.specs.declared.Finish.{Finish}
-use Rattle.sweep.specs.declared.Finish.TheVariants.{Fitted, Failed}
-use Rattle.gwr.specs.declared.FitAnswer.{FitAnswer}
-use Rattle.gwr.specs.declared.FitAnswer.TheVariants.{Done, Rejected}
+use Rattle.sweep.specs.Finish.{number_of}
+use Rattle.std.specs.Prelude.{Result, Ok, Err}
 use Rattle.gwr.specs.declared.Fit.{Fit}
 use Rattle.gwr.specs.Fit.{gwr_fit}
 use Rattle.request.specs.Options.{options_of}
@@ -22,20 +19,17 @@ use Rattle.measured.specs.Fits.{Seen, criterion_by, told_of, seen_of, fit_seen, 
 
 -- ---- an answer
 
-module _ (rows : ℕ) (reals : List Float) (counts : List ℕ) where
-  pub seen_rejected : {a : FitAnswer} {r : Refusal} {n : ℕ} → a ≡ Rejected r → n ≡ refusal_number r → ◌≡◌ {A = Seen} (n, (reals, counts)) (seen_of a rows reals counts)
-  seen_rejected e h = ap (λ (n : ℕ). (n, (reals, counts))) h ∙ ap (λ (a : FitAnswer). seen_of a rows reals counts) (sym e)
+module _ (reals : List Float) (counts : List ℕ) where
+  pub seen_rejected : {a : Result Fit Refusal} {r : Refusal} {n : ℕ} → a ≡ Err r → n ≡ refusal_number r → ◌≡◌ {A = Seen} (n, (reals, counts)) (seen_of a reals counts)
+  seen_rejected e h = ap (λ (n : ℕ). (n, (reals, counts))) h ∙ ap (λ (a : Result Fit Refusal). seen_of a reals counts) (sym e)
 
-  pub seen_failed : {a : FitAnswer} {f : Finish} {r : Refusal} {s : Summary} {n : ℕ} {seen : Seen} → a ≡ Done f → f ≡ Failed r s → n ≡ refusal_number r → seen ≡ told_of n s rows reals counts → seen ≡ seen_of a rows reals counts
-  seen_failed {s = s} e g h i = i ∙ ap (λ (n : ℕ). told_of n s rows reals counts) h ∙ ap (λ (a : FitAnswer). seen_of a rows reals counts) (sym (e ∙ ap Done g))
-
-  pub seen_fitted : {a : FitAnswer} {f : Finish} {s : Summary} {seen : Seen} → a ≡ Done f → f ≡ Fitted s → seen ≡ told_of 0 s rows reals counts → seen ≡ seen_of a rows reals counts
-  seen_fitted e g i = i ∙ ap (λ (a : FitAnswer). seen_of a rows reals counts) (sym (e ∙ ap Done g))
+  pub seen_made : {a : Result Fit Refusal} {f : Fit} {n : ℕ} {seen : Seen} → a ≡ Ok f → n ≡ number_of f.finish → seen ≡ told_of n f.finish.summary f.rows reals counts → seen ≡ seen_of a reals counts
+  seen_made {f = f} e h i = i ∙ ap (λ (n : ℕ). told_of n f.finish.summary f.rows reals counts) h ∙ ap (λ (a : Result Fit Refusal). seen_of a reals counts) (sym e)
 
 -- ---- a fit
 
-pub fit_told : {f : Fit} {after : List Float} (reals : List Float) (counts : List ℕ) {seen : Seen} {g : Fit × List Float} → (f, after) ≡ g → seen ≡ seen_of f.answer f.rows reals counts → (seen, after) ≡ fit_seen g reals counts
-fit_told {after = after} reals counts e h = ap (λ (s : Seen). (s, after)) h ∙ ap (λ (g : Fit × List Float). fit_seen g reals counts) e
+pub fit_told : {f : Result Fit Refusal} {after : List Float} (reals : List Float) (counts : List ℕ) {seen : Seen} {g : Result Fit Refusal × List Float} → (f, after) ≡ g → seen ≡ seen_of f reals counts → (seen, after) ≡ fit_seen g reals counts
+fit_told {after = after} reals counts e h = ap (λ (s : Seen). (s, after)) h ∙ ap (λ (g : Result Fit Refusal × List Float). fit_seen g reals counts) e
 
 -- ---- the call
 

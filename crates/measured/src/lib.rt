@@ -15,12 +15,11 @@ ghost use Rattle.gwr.specs.Fit.{gwr_fit};
 ghost use Rattle.measured.specs.Fits.{criterion_by, told_of, seen_of, fit_seen, judged_fit};
 
 use criterion::Summary;
-use gwr::FitAnswer;
+use gwr::Fit;
 use kernel::GwrKernel;
 use neighbours::Walker;
 use setup::{GwrBandwidth, GwrCriterion, GwrOptions};
 use stepping::Job;
-use sweep::Finish;
 
 // Each number becomes its square root.
 #[unsafe(no_mangle)]
@@ -209,16 +208,13 @@ fn tell(number: u32, s: Summary, rows: usize, reals: &mut [f64; 2], counts: &mut
     number
 }
 
-// What is seen of an answer.
-fn seen_of(answer: FitAnswer, rows: usize, reals: &mut [f64; 2], counts: &mut [u64; 2]) -> u32
-    ensures { (result, (reals.new, counts.new)) ≡ seen_of answer rows reals.old counts.old }
+// What is seen of a fit.
+fn seen_of(fit: Result<Fit, Refusal>, reals: &mut [f64; 2], counts: &mut [u64; 2]) -> u32
+    ensures { (result, (reals.new, counts.new)) ≡ seen_of fit reals.old counts.old }
 {
-    match answer {
-        FitAnswer::Rejected(r) => r.number(),
-        FitAnswer::Done(finish) => match finish {
-            Finish::Failed(r, s) => tell(r.number(), s, rows, reals, counts),
-            Finish::Fitted(s) => tell(0, s, rows, reals, counts),
-        },
+    match fit {
+        Err(r) => r.number(),
+        Ok(fit) => tell(fit.finish.number(), fit.finish.summary, fit.rows, reals, counts),
     }
 }
 
@@ -237,8 +233,7 @@ fn fit_seen(
     ensures { ((result, (reals.new, counts.new)), out.new) ≡ fit_seen (gwr_fit (trusted_data coords.now x.now y.now trust.now) p options out.old) reals.old counts.old }
 {
     let fit = gwr::gwr_fit(coords, x, y, trust, p, options, out);
-    let answer = fit.answer;
-    seen_of(answer, fit.rows, reals, counts)
+    seen_of(fit, reals, counts)
 }
 
 // The fit of numbers by the byte call's numbers of kernel, kind and bandwidth, and a criterion's: 0 unguarded, any other guarded. Answers

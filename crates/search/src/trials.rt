@@ -23,9 +23,8 @@ pub fn evaluate_aicc(
 {
     let mut none: [f64; 0] = [0.0; 0];
     let s = sweep::fit_all_locations(coords, x, y, trust, u, b, false, &mut none);
-    let ending = s.ending(u);
     Trial {
-        score: ending.score(),
+        score: criterion::score_of(s.ending(u)),
         solves: s.solves(),
     }
 }

@@ -5,11 +5,11 @@
 ghost use Rattle.std.specs.Prelude.{◌≤◌, ◌<◌};
 
 use criterion::Summary;
-use gwr::FitAnswer;
+use gwr::Fit;
 use kernel::GwrKernel;
+use refusal::Refusal;
 use setup::{GwrBandwidth, GwrOptions};
 use std::io;
-use sweep::Finish;
 
 // A space and the bits of a real.
 fn print_real(rt: &impl Print, v: f64) -> io::Result<()> {
@@ -63,15 +63,20 @@ fn print_refused(rt: &impl Print, number: u32) -> io::Result<()> {
 }
 
 // What a fit answered, with `rows` as its output.
-fn print_answer(rt: &impl Print, answer: FitAnswer, rows: &[f64], width: usize) -> io::Result<()>
+fn print_answer(
+    rt: &impl Print,
+    fit: Result<Fit, Refusal>,
+    rows: &[f64],
+    width: usize,
+) -> io::Result<()>
     requires { 0 < width }
 {
-    match answer {
-        FitAnswer::Rejected(r) => print_refused(rt, r.number()),
-        FitAnswer::Done(finish) => match finish {
-            Finish::Failed(r, _) => print_refused(rt, r.number()),
-            Finish::Fitted(s) => {
-                print_summary(rt, s)?;
+    match fit {
+        Err(r) => print_refused(rt, r.number()),
+        Ok(fit) => match fit.finish.refusal {
+            Some(r) => print_refused(rt, r.number()),
+            None => {
+                print_summary(rt, fit.finish.summary)?;
                 print_rows(rt, rows, width)
             }
         },
@@ -94,8 +99,7 @@ fn show(
 {
     println!(rt; "{name}:")?;
     let fit = gwr::gwr_fit(coords, x, y, trust, p, options, &mut *out);
-    let answer = fit.answer;
-    print_answer(rt, answer, &*out, p + 4)
+    print_answer(rt, fit, &*out, p + 4)
 }
 
 fn by_distance(kernel: GwrKernel, d: f64) -> GwrOptions {

@@ -2,7 +2,6 @@
 //
 // Reals are the same by their bits: as numbers a NaN is unequal to itself, and -0 equal to 0. So a record has an image, in which
 // reals are their bits, and images are compared by derived equality.
-use criterion::Criterion;
 use golden::Bracket;
 use kernel::GwrKernel;
 use refusal::Refusal;
@@ -59,15 +58,8 @@ impl From<Stage> for StageImage {
             Stage::Second => StageImage::Second,
             Stage::Round => StageImage::Round,
             Stage::Final => StageImage::Final,
-            Stage::Ended(c) => StageImage::Ended(criterion_image(c)),
+            Stage::Ended(c) => StageImage::Ended(c.map(|v| Bits::from(v))),
         }
-    }
-}
-
-fn criterion_image(c: Criterion) -> Result<Bits, Refusal> {
-    match c {
-        Criterion::Value(v) => Ok(Bits::from(v)),
-        Criterion::Refused(r) => Err(r),
     }
 }
 

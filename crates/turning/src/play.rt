@@ -7,7 +7,7 @@ use crate::sample::Sample;
 use crate::tally::Tally;
 use crate::{compare, lend, made};
 use criterion::Summary;
-use gwr::{Fit, FitAnswer};
+use gwr::Fit;
 use job::{Answer, Turned};
 use refusal::Refusal;
 use setup::GwrOptions;
@@ -22,20 +22,13 @@ struct Seen {
     steps: u32,
 }
 
-// How an uninterrupted fit ended: its refusal, if any, and its summary.
-#[derive(Clone, Copy)]
-pub struct Ending {
-    pub refusal: Option<Refusal>,
-    pub summary: Summary,
-}
-
 // A job that has begun: its first record and its data, and the end and the output of its uninterrupted fit. Some turns are lent bad
 // trusts where `spoils`.
 #[derive(Clone, Copy)]
 struct Begun<'a> {
     first: Job,
     data: Sample<'a>,
-    ending: Ending,
+    ending: Finish,
     rows: &'a [f64],
     spoils: bool,
 }
@@ -89,26 +82,12 @@ fn play_data(
 }
 
 // How a fit ended. Only rejected fits have the numbers 1 to 13, and they have no summary.
-fn ending_of(fit: Fit) -> Ending {
-    match fit.answer {
-        FitAnswer::Done(f) => ending_with(f),
-        FitAnswer::Rejected(r) => Ending {
+fn ending_of(fit: Result<Fit, Refusal>) -> Finish {
+    match fit {
+        Ok(fit) => fit.finish,
+        Err(r) => Finish {
             refusal: Some(r),
             summary: Summary::failed(0),
-        },
-    }
-}
-
-// The end of a fit that was made.
-pub fn ending_with(f: Finish) -> Ending {
-    match f {
-        Finish::Fitted(summary) => Ending {
-            refusal: None,
-            summary,
-        },
-        Finish::Failed(r, summary) => Ending {
-            refusal: Some(r),
-            summary,
         },
     }
 }
@@ -162,7 +141,7 @@ fn follow(j: Job, data: Sample<'_>, out: &mut [f64], steps: u32) -> Job {
 }
 
 // What a turn answered, held to the record that followed it, to its expected refusal and, where it ended, to the uninterrupted fit.
-fn account(given: Given, followed: Job, fit: Ending, seen: Seen, t: &mut Tally) {
+fn account(given: Given, followed: Job, fit: Finish, seen: Seen, t: &mut Tally) {
     let turned = given.turned;
     t.answered(turned.answer);
     t.expect(seen.beside & compare::same_job(turned.job, followed));
@@ -170,16 +149,16 @@ fn account(given: Given, followed: Job, fit: Ending, seen: Seen, t: &mut Tally) 
 }
 
 // Whether an answer is the one that is wanted.
-fn answered_so(turned: Turned, want: Option<Refusal>, fit: Ending, seen: Seen) -> bool {
+fn answered_so(turned: Turned, want: Option<Refusal>, fit: Finish, seen: Seen) -> bool {
     match turned.answer {
         Answer::Working => want.is_none(),
         Answer::Refused(r) => (want == Some(r)) & (turned.steps == 0),
-        Answer::Ended(f) => want.is_none() & ended_so(fit, ending_with(f), seen),
+        Answer::Ended(f) => want.is_none() & ended_so(fit, f, seen),
     }
 }
 
 // Whether a list ended with the fit's refusal, rows and summary, and its turns made as many steps as the fit made solves.
-fn ended_so(fit: Ending, f: Ending, seen: Seen) -> bool {
+fn ended_so(fit: Finish, f: Finish, seen: Seen) -> bool {
     let reals = compare::same_real(fit.summary.bandwidth, f.summary.bandwidth)
         & compare::same_real(fit.summary.aicc, f.summary.aicc);
     let solves = (f.summary.solves == fit.summary.solves) & (f.summary.solves == seen.steps as u64);

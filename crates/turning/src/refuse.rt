@@ -2,7 +2,6 @@
 use crate::compare;
 use crate::sample::Sample;
 use crate::tally::Tally;
-use criterion::Criterion;
 use golden::Bracket;
 use kernel::GwrKernel;
 use refusal::Refusal;
@@ -25,7 +24,7 @@ const ENDED: Option<Refusal> = Some(Refusal::AlreadyEnded);
 
 const DISTANCE: GwrBandwidth = GwrBandwidth::Fixed(2.0);
 
-const END: Stage = Stage::Ended(Criterion::Value(1.0));
+const END: Stage = Stage::Ended(Ok(1.0));
 
 fn count(k: usize) -> GwrBandwidth {
     GwrBandwidth::AdaptiveKnn(k)

@@ -1,5 +1,5 @@
 // What was counted.
-use crate::{compare, play};
+use crate::compare;
 use job::{Answer, Turned};
 use refusal::Refusal;
 use stepping::Job;
@@ -74,7 +74,7 @@ impl Tally {
         match answer {
             Answer::Working => (),
             Answer::Refused(r) => count(&mut self.turned, Some(r)),
-            Answer::Ended(f) => count(&mut self.turned, play::ending_with(f).refusal),
+            Answer::Ended(f) => count(&mut self.turned, f.refusal),
         }
     }
 }

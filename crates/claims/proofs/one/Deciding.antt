@@ -1,20 +1,21 @@
 -- The fit, beginning and the weight of a distance: which inputs are refused, and what is served.
+use Rattle.std.specs.Prelude.{Result, Err, IsOkAnd}
+use Rattle.gwr.specs.declared.Fit.{Fit}
 use mathlib.Core.Path.{◌≡◌, refl, ap, subst, subst⁻¹}
 use mathlib.Core.Bool.{false}
 use mathlib.Core.List.{List, []}
-use Prim.Native.Nat.{ℕ}
+use Prim.Native.Nat.{ℕ, ◌*◌, ◌≤◌}
 use lib.ListN.{length, replicate, length-replicate}
 use lib.Ieee.{Float}
 use Rattle.claims.specs.Words.{zero64, Refusal, FirstOf, NoneOf, Decides, GwrOptions, Setup, Data, setup_of, Plan, Acceptance, fit_tests, plan_of, accept_of, answered, gwr_fit, Job, start_job, begun_with, begin_of}
 use Rattle.claims.proofs.Laws.{accept_decides, fit_means}
-use Rattle.gwr.specs.declared.FitAnswer.TheVariants as fit
 use Rattle.std.specs.Prelude.{Ok, Err}
-use Rattle.claims.specs.Whole.{to_final}
+use Rattle.claims.specs.Whole.{to_final, count_of}
 use Rattle.claims.specs.Turns.{AllLawful}
-use Rattle.claims.specs.DemandOne.{JobServed, BeginServed}
+use Rattle.claims.specs.DemandOne.{JobServed, BeginServed, FitServed}
 use Rattle.claims.proofs.Starting.{started}
 use Rattle.claims.proofs.DemandThree.{demand_three}
-use Rattle.claims.proofs.one.Served.{Finished, final_finished}
+use Rattle.claims.proofs.one.Served.{final_finished}
 
 -- ---- the fit and beginning
 
@@ -43,10 +44,12 @@ module _ (d : Data) (p : ℕ) (o : GwrOptions) where
     fit_served h =
         let z = demand_three d p o out own_job (ready h) [] tt in
         let a = (started d p o out own_job (ready h)).accepted in
-        let f = subst⁻¹ (Finished u d (to_final q u d).0 (to_final q u d).1 out) z.final (final_finished u d (to_final q u d).0 (to_final q u d).1 out a.room a.shaped.sized.narrow) in
-        record { answered = f.answered; written = f.written; untouched = f.untouched; long = f.long; solves = z.bound }
+        let f = final_finished u d (to_final q u d).0 (to_final q u d).1 out a.room a.shaped.sized.narrow in
+        let most = subst (λ (w : Result Fit Refusal × List Float). count_of w.0 ≤ 103 * u.n) z.final z.bound in
+        subst⁻¹ (λ (w : Result Fit Refusal × List Float). IsOkAnd w.0 (λ (g : Fit). FitServed u d (to_final q u d).0 (to_final q u d).1 out (g, w.1))) z.final
+        (record { answered = f.answered; written = f.written; untouched = f.untouched; long = f.long; solves = most })
 
-    pub fit_decides : Decides (fit_tests d p o (length out)) (λ (r : Refusal). gwr_fit d p o out ≡ (record { answer = fit.Rejected r; rows = 0 }, out)) (JobServed d p o out)
+    pub fit_decides : Decides (fit_tests d p o (length out)) (λ (r : Refusal). gwr_fit d p o out ≡ (Err r, out)) (JobServed d p o out)
     unfolding gwr_fit
     fit_decides = record { refused = λ r h. ap (λ (a : Acceptance). answered a u d out) ((accept_decides d p o (length out)).refused r h); served = fit_served }
 

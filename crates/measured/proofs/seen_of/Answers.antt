@@ -1,13 +1,11 @@
--- `measured::seen_of` meets its contract, answer by answer.
+-- `measured::seen_of` meets its contract: a fit that was made, or the refusal of its input.
+use Rattle.std.specs.Prelude.{Ok, Err}
 use borrow.Author.Rules.{rules}
-use Rattle.measured.proofs.Judging.{seen_rejected, seen_failed, seen_fitted}
+use Rattle.measured.proofs.Judging.{seen_rejected, seen_made}
 use Rattle.measured.proofs.seen_of.Goals as goal
 
-pub returns-in-Rejected : goal.returns-in-Rejected
-returns-in-Rejected c = search (rules, seen_rejected)
+pub returns-in-Err : goal.returns-in-Err
+returns-in-Err c = search (rules, seen_rejected)
 
-pub returns-in-Failed : goal.returns-in-Failed
-returns-in-Failed c = search (rules, seen_failed)
-
-pub returns-in-Fitted : goal.returns-in-Fitted
-returns-in-Fitted c = search (rules, seen_fitted)
+pub returns-in-Ok : goal.returns-in-Ok
+returns-in-Ok c = search (rules, seen_made)

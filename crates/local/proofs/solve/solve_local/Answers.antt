@@ -8,7 +8,7 @@ use Rattle.local.proofs.solve.solve_local.Goals as goal
 pub returns-in-Fitted : goal.returns-in-Fitted
 unfolding outcome_of solve_local
 returns-in-Fitted c =
-    sym (rw (← c.weigh-sum.ensures, fit_blind, values_blind, ← c.fit_coefficients-e.ensures, c.in-Fitted.is, ← c.values_at-v.ensures))
+    sym (rw (← c.weigh-sum.ensures, fit_blind, values_blind, ← c.fit_coefficients-e.ensures, c.in-Fitted.is, ← c.values_at-values.ensures))
 
 -- the coefficients were not found
 pub returns-in-Failed : goal.returns-in-Failed

@@ -12,4 +12,4 @@ solves-requires c =
 
 pub returns : goal.returns
 returns c =
-    trial_is _ _ _ _ _ _ _ _ c.fit_all_locations-s.ensures c.ending-ending.ensures c.score.ensures c.solves.ensures
+    trial_is _ _ _ _ _ _ _ _ c.fit_all_locations-s.ensures c.ending.ensures c.score_of.ensures c.solves.ensures
