@@ -2,12 +2,10 @@
 #![tactic(auto)]
 
 ghost use Rattle.std.specs.Prelude.{◌≡◌, ◌≤◌};
-ghost use Rattle.setup.specs.Data.{data_of};
-ghost use Rattle.setup.specs.Shape.{Shaped};
 ghost use Rattle.estimate.specs.Estimate.{coefficients_of, from_inverse, coefficients_under, fit_coefficients};
 
 use refusal::Refusal;
-use setup::Setup;
+use setup::Problem;
 
 mod inner;
 mod inverse;
@@ -51,18 +49,11 @@ fn from_inverse(inverse: [[f64; 16]; 8], rhs: [f64; 8], m: usize) -> Result<Coef
 }
 
 // The coefficients of the fit under the weights w.
-fn coefficients_under(
-    coords: &[f64],
-    x: &[f64],
-    y: &[f64],
-    u: Setup,
-    w: &[f64; 512],
-) -> Result<Coefficients, Refusal>
-    requires { Shaped u (data_of coords.now x.now y.now) }
-    ensures { result ≡ coefficients_under u (data_of coords.now x.now y.now) w.now }
+fn coefficients_under(problem: &Problem<'_>, w: &[f64; 512]) -> Result<Coefficients, Refusal>
+    ensures { result ≡ coefficients_under problem.now.setup problem.now.columns w.now }
 {
-    let m = u.p + 1;
-    let e = normal::equations_of(coords, x, y, u, w);
+    let m = problem.setup().p + 1;
+    let e = normal::equations_of(problem, w);
     match inverse::invert_matrix(&e.a, m) {
         Some(inverse) => from_inverse(inverse, e.rhs, m),
         None => Err(Refusal::Singular),
@@ -71,18 +62,14 @@ fn coefficients_under(
 
 // The same under weights with this sum, which must be above zero.
 pub fn fit_coefficients(
-    coords: &[f64],
-    x: &[f64],
-    y: &[f64],
-    u: Setup,
+    problem: &Problem<'_>,
     w: &[f64; 512],
     sum: f64,
 ) -> Result<Coefficients, Refusal>
-    requires { Shaped u (data_of coords.now x.now y.now) }
-    ensures { result ≡ fit_coefficients u (data_of coords.now x.now y.now) w.now sum }
+    ensures { result ≡ fit_coefficients problem.now.setup problem.now.columns w.now sum }
 {
     if sum > 0.0 {
-        coefficients_under(coords, x, y, u, w)
+        coefficients_under(problem, w)
     } else {
         Err(Refusal::WeightSumNotPositive)
     }

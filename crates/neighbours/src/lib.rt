@@ -35,8 +35,8 @@ pub fn local_bandwidth_distance(problem: &Problem<'_>, i: usize, bandwidth: GwrB
     match bandwidth {
         GwrBandwidth::Fixed(b) => b,
         GwrBandwidth::AdaptiveKnn(k) => {
-            let columns = &problem.columns;
-            nearest_from(columns.coords, Place::at(columns.coords, i), Some(i), k)
+            let coords = problem.coords();
+            nearest_from(coords, Place::at(coords, i), Some(i), k)
         }
     }
 }

@@ -1,12 +1,10 @@
 // The weighted normal equations, observation by observation.
 ghost use Rattle.std.specs.Prelude.{◌≡◌, ◌+◌, ◌≤◌, length};
-ghost use Rattle.setup.specs.Data.{data_of};
-ghost use Rattle.setup.specs.Shape.{Shaped};
 ghost use Rattle.normal.specs.Design.{design_of};
 ghost use Rattle.normal.specs.Equations.{add_row, observe, equations_of};
 
 use crate::design::predictors_of;
-use setup::Setup;
+use setup::Problem;
 
 // The upper triangle of the matrix A, and the right-hand side.
 #[derive(Clone, Copy)]
@@ -52,10 +50,11 @@ fn observe(e: &mut Equations, w: f64, y: f64, own: &[f64])
 }
 
 // The weighted normal equations over observations in order, leaving out weight 0.
-pub fn equations_of(coords: &[f64], x: &[f64], y: &[f64], u: Setup, w: &[f64; 512]) -> Equations
-    requires { Shaped u (data_of coords.now x.now y.now) }
-    ensures { result ≡ equations_of u (data_of coords.now x.now y.now) w.now }
+pub fn equations_of(problem: &Problem<'_>, w: &[f64; 512]) -> Equations
+    ensures { result ≡ equations_of problem.now.setup problem.now.columns w.now }
 {
+    let u = problem.setup();
+    let y = problem.responses();
     let mut e = Equations {
         a: [[0.0; 8]; 8],
         rhs: [0.0; 8],
@@ -65,7 +64,7 @@ pub fn equations_of(coords: &[f64], x: &[f64], y: &[f64], u: Setup, w: &[f64; 51
         if w[j] == 0.0 {
             continue;
         }
-        observe(&mut e, w[j], y[j], predictors_of(x, u.n, u.p, j));
+        observe(&mut e, w[j], y[j], predictors_of(problem, j));
     }
     e
 }

@@ -1,5 +1,6 @@
 // What is lent for a job: the columns of its data, and these beside options and sizes once their lengths are known to fit.
 ghost use Rattle.std.specs.Prelude.{◌≡◌};
+ghost use Rattle.setup.specs.Data.Trusts.{each};
 ghost use Rattle.setup.specs.Shape.{Shaped};
 
 use super::Setup;
@@ -25,8 +26,8 @@ impl<'a> Model for Columns<'a> {
 // A job's options and sizes beside its data, whose lengths fit: what every solve works on.
 #[derive(Drop)]
 pub struct Problem<'a> {
-    pub setup: Setup,
-    pub columns: Columns<'a>,
+    setup: Setup,
+    columns: Columns<'a>,
 }
 
 impl<'a> Model for Problem<'a> {
@@ -53,5 +54,42 @@ impl<'a> Problem<'a> {
             trusts: lent.trusts,
         };
         Problem { setup, columns }
+    }
+
+    // Options and sizes. What is known of the lengths of the data is said here.
+    pub fn setup(&self) -> Setup
+        ensures setup { result ≡ self.now.setup }
+        ensures shaped { Shaped self.now.setup self.now.columns }
+    {
+        let Problem { setup, .. } = self;
+        *setup
+    }
+
+    pub fn coords(&self) -> &'a [f64]
+        ensures { result.now ≡ self.now.columns.coords }
+    {
+        let columns = &self.columns;
+        columns.coords
+    }
+
+    pub fn predictors(&self) -> &'a [f64]
+        ensures { result.now ≡ self.now.columns.predictors }
+    {
+        let columns = &self.columns;
+        columns.predictors
+    }
+
+    pub fn responses(&self) -> &'a [f64]
+        ensures { result.now ≡ self.now.columns.responses }
+    {
+        let columns = &self.columns;
+        columns.responses
+    }
+
+    pub fn trusts(&self) -> &'a [f64]
+        ensures { each result.now ≡ self.now.columns.trusts }
+    {
+        let columns = &self.columns;
+        columns.trusts
     }
 }

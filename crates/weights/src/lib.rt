@@ -16,10 +16,9 @@ pub fn weigh(problem: &Problem<'_>, place: Place, b: f64, w: &mut [f64; 512]) ->
     requires zeros { w.old ≡ replicate 512 zero64 }
     ensures { (w.new, result) ≡ weights_from problem.now.setup problem.now.columns place.east place.north b }
 {
-    let columns = &problem.columns;
-    let coords = columns.coords;
-    let trusts = columns.trusts;
-    let kernel = problem.setup.options.kernel;
+    let coords = problem.coords();
+    let trusts = problem.trusts();
+    let kernel = problem.setup().options.kernel;
     let reach = kernel.reach(b);
     if reach.is_nan() {
         near::weigh_all(coords, trusts, kernel, place, b, w)

@@ -5,9 +5,9 @@ use Rattle.estimate.proofs.coefficients_under.Goals as goal
 
 pub returns-in-Some : goal.returns-in-Some
 unfolding eliminated_of from_eliminated coefficients_under
-returns-in-Some c = sym (rw (← c.equations_of-e.ensures, ← c.invert_matrix.ensures, c.in-Some.is, ← c.from_inverse.ensures))
+returns-in-Some c = sym (rw (← c.equations_of-e.ensures, ← c.setup-m.ensures.setup, ← c.invert_matrix.ensures, c.in-Some.is, ← c.from_inverse.ensures))
 
 -- A is singular
 pub returns-in-None : goal.returns-in-None
 unfolding eliminated_of from_eliminated coefficients_under
-returns-in-None c = sym (rw (← c.equations_of-e.ensures, ← c.invert_matrix.ensures, c.in-None.is))
+returns-in-None c = sym (rw (← c.equations_of-e.ensures, ← c.setup-m.ensures.setup, ← c.invert_matrix.ensures, c.in-None.is))

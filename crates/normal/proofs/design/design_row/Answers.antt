@@ -1,15 +1,20 @@
 -- `normal::design::design_row` meets its contract: the predictors stand behind the 1.
-use mathlib.Core.Path.{◌∙◌}
+use mathlib.Core.Path.{◌≡◌, ◌∙◌}
 use Prim.Native.Nat.{◌+◌, ◌-◌}
 use native.Mathlib.Omega.{arith}
+use lib.ListN.{length}
 use Rattle.normal.specs.Design.{predictors_of}
-use Rattle.normal.proofs.DesignCells.{own_long, own_within, design_alone, copied_in}
+use Rattle.normal.proofs.DesignCells.{own_within, design_alone, copied_in}
 use Rattle.normal.proofs.design.design_row.Goals as goal
 
 pub returns : goal.returns
 returns c =
-    let s = c.args in
-    let within = own_within s.x.now s.n s.p s.j c.requires.0 c.requires.1 in
-    let long = own_long s.x.now s.p s.j within in
-    rw (c.copy_from_slice.ensures.after, c.predictors_of.ensures)
-    (copied_in (predictors_of s.x.now s.p s.j) (s.p + 1 - 1) (omega (arith, long, c.requires.3)) (omega (arith, long)) ∙ design_alone s.x.now s.p s.j within)
+    let q = c.args.problem.now in
+    let x = q.columns.predictors in
+    let j = c.args.j in
+    let shaped = c.setup-p.ensures.shaped in
+    let within = own_within x q.setup.n q.setup.p j shaped.rows c.requires in
+    let own = predictors_of x q.setup.p j in
+    let long : length own ≡ q.setup.p = rw (← c.predictors_of.ensures.own) c.predictors_of.ensures.many in
+    rw (c.copy_from_slice.ensures.after, c.predictors_of.ensures.own, c.setup-p.ensures.setup)
+    (copied_in own (q.setup.p + 1 - 1) (omega (arith, long, shaped.sized.narrow)) (omega (arith, long)) ∙ design_alone x q.setup.p j within)
