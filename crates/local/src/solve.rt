@@ -6,7 +6,6 @@ ghost use Rattle.setup.specs.Shape.{Shaped};
 ghost use Rattle.local.specs.Solve.{solve_local, solve_location};
 
 use crate::{Outcome, Solved};
-use estimate::Estimate;
 use setup::{GwrBandwidth, Setup};
 
 // 000's `solve_local`, at bandwidth distance b.
@@ -35,21 +34,17 @@ fn solve_local(
         b,
         &mut w,
     );
-    let mut inverse = [[0.0; 16]; 8];
-    let e = estimate::fit_coefficients(coords, x, y, u, &w, sum, &mut inverse);
-    let beta = e.beta;
-    let found = e.estimate;
-    match found {
-        Estimate::Fitted => {
-            let v = evaluate::values_at(coords, x, y, u, &w, i, &inverse, beta, sum);
+    match estimate::fit_coefficients(coords, x, y, u, &w, sum) {
+        Ok(c) => {
+            let v = evaluate::values_at(coords, x, y, u, &w, i, &c.inverse, c.beta, sum);
             Solved {
                 outcome: Outcome::Found(v),
-                beta,
+                beta: c.beta,
             }
         }
-        Estimate::Failed(r) => Solved {
+        Err(r) => Solved {
             outcome: Outcome::Refused(r),
-            beta,
+            beta: [0.0; 8],
         },
     }
 }
