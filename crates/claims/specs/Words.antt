@@ -44,14 +44,14 @@ pub use Rattle.neighbours.specs.Walk.{between, nearest_of}
 pub use Rattle.weights.specs.Weights.{trusted_weight, weights_at}
 unfoldable pub use Rattle.weights.specs.Weights.{weight_from, weights_from}
 unfoldable pub use Rattle.normal.specs.Equations.{normal_step, equations_of}
-pub use Rattle.estimate.specs.Estimate.{refused_with}
-unfoldable pub use Rattle.estimate.specs.Estimate.{coefficients_of, coefficients_finite, from_inverse, eliminated_of, coefficients_under, fit_coefficients}
+pub use Rattle.estimate.specs.declared.Coefficients.{Coefficients}
+unfoldable pub use Rattle.estimate.specs.Estimate.{coefficients_of, coefficients_finite, from_inverse, eliminated_of, from_eliminated, coefficients_under, fit_coefficients}
 unfoldable pub use Rattle.estimate.specs.Inverse.{inverse_finite, inverse_cell}
 pub use Rattle.estimate.specs.NormalEquations.{ExactFit, Solves}
 unfoldable pub use Rattle.evaluate.specs.Evaluate.{squares_step, sum_squares, local_r_squared, values_at}
 pub use Rattle.evaluate.specs.declared.Values.{Values}
 unfoldable pub use Rattle.row.specs.Row.{put_row, row_of}
-unfoldable pub use Rattle.local.specs.Solve.{solve_location, outcome_of, solve_local}
+unfoldable pub use Rattle.local.specs.Solve.{solve_location, solved_by, solve_local}
 pub use Rattle.local.specs.declared.Solved.{Solved}
 pub use Rattle.criterion.specs.Aicc.{failed_summary, pi64}
 unfoldable pub use Rattle.criterion.specs.Aicc.{corrected_aic, score_of, exhausted}

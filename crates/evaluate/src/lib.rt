@@ -1,10 +1,10 @@
 // What a fit says of the location that it was made for: prediction, residual, local R² and leverage.
 #![tactic(auto)]
 
-ghost use Rattle.std.specs.Prelude.{◌≡◌, ◌+◌, ◌*◌, ◌≤◌, ◌<◌, length};
+ghost use Rattle.std.specs.Prelude.{◌≡◌, ◌+◌, ◌≤◌, ◌<◌, length};
 ghost use Rattle.setup.specs.Data.{data_of};
 ghost use Rattle.setup.specs.Shape.{Shaped};
-ghost use Rattle.normal.specs.Design.{design_row};
+ghost use Rattle.normal.specs.Design.{design_of};
 ghost use Rattle.evaluate.specs.Evaluate.{inner_product, hat_diagonal, add_squares, sum_squares, explained_share, local_r_squared, values_at};
 
 use setup::Setup;
@@ -25,16 +25,12 @@ pub struct Squares {
     pub residual: f64,
 }
 
-// The fitted value of observation j: the coefficients times its design row, read where its predictors stand.
-fn fitted(beta: &[f64; 8], x: &[f64], n: usize, p: usize, j: usize) -> f64
-    requires { (length x.now ≡ n * p) × (j < n) × (n ≤ 512) × (p ≤ 7) }
-    ensures { result ≡ inner_product beta.now (design_row x.now p j) (p + 1) }
+// The fitted value of an observation: the coefficients times its design row, read where its predictors stand.
+fn fitted(beta: &[f64; 8], own: &[f64]) -> f64
+    requires { length own.now ≤ 7 }
+    ensures { result ≡ inner_product beta.now (design_of own.now) (length own.now + 1) }
 {
-    let mut acc = 0.0 + beta[0] * 1.0;
-    for q in 0..p {
-        acc = acc + beta[q + 1] * x[j * p + q];
-    }
-    acc
+    estimate::inner_product(0.0 + beta[0] * 1.0, &beta[1..own.len() + 1], own)
 }
 
 // The i-th diagonal element of the hat matrix, from the location's design row and own weight.
@@ -43,22 +39,11 @@ fn hat_diagonal(inverse: &[[f64; 16]; 8], row: [f64; 8], own: f64, m: usize) -> 
     ensures { result ≡ hat_diagonal inverse.now row own m }
 {
     let mut quad = 0.0;
+    // An index, since `inverse_times` takes it.
     for p in 0..m {
         quad = quad + row[p] * estimate::inverse_times(inverse, p, row, m);
     }
     own * quad
-}
-
-// The sum of w[j] * y[j] in order.
-fn inner_product(w: &[f64; 512], y: &[f64], n: usize) -> f64
-    requires { (length y.now ≡ n) × (n ≤ 512) }
-    ensures { result ≡ inner_product w.now y.now n }
-{
-    let mut acc = 0.0;
-    for j in 0..n {
-        acc = acc + w[j] * y[j];
-    }
-    acc
 }
 
 // One observation's part in both sums of squares.
@@ -90,12 +75,13 @@ fn sum_squares(
         total: 0.0,
         residual: 0.0,
     };
+    // An index: chunks of no predictors cannot be zipped.
     for j in 0..u.n {
-        let v = w[j];
-        if v == 0.0 {
+        if w[j] == 0.0 {
             continue;
         }
-        s = add_squares(s, v, y[j], mean, fitted(&beta, x, u.n, u.p, j));
+        let own = normal::predictors_of(x, u.n, u.p, j);
+        s = add_squares(s, w[j], y[j], mean, fitted(&beta, own));
     }
     s
 }
@@ -124,7 +110,7 @@ fn local_r_squared(
     requires { Shaped u (data_of coords.now x.now y.now) }
     ensures { result ≡ local_r_squared u (data_of coords.now x.now y.now) w.now beta sum }
 {
-    let mean = inner_product(w, y, u.n) / sum;
+    let mean = estimate::inner_product(0.0, &w[..u.n], y) / sum;
     explained_share(sum_squares(coords, x, y, u, w, beta, mean))
 }
 
@@ -145,7 +131,7 @@ pub fn values_at(
     ensures { result ≡ values_at u (data_of coords.now x.now y.now) w.now i inverse.now beta sum }
 {
     let row = normal::design_row(x, u.n, u.p, i);
-    let predicted = fitted(&beta, x, u.n, u.p, i);
+    let predicted = fitted(&beta, normal::predictors_of(x, u.n, u.p, i));
     Values {
         predicted,
         residual: y[i] - predicted,

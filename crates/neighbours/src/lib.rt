@@ -35,8 +35,7 @@ pub fn local_bandwidth_distance(problem: &Problem<'_>, i: usize, bandwidth: GwrB
     match bandwidth {
         GwrBandwidth::Fixed(b) => b,
         GwrBandwidth::AdaptiveKnn(k) => {
-            let coords = problem.coords();
-            nearest_from(coords, Place::at(coords, i), Some(i), k)
+            nearest_from(problem.coords(), problem.place(i), Some(i), k)
         }
     }
 }

@@ -1,9 +1,11 @@
 // What is lent for a job: the columns of its data, and these beside options and sizes once their lengths are known to fit.
-ghost use Rattle.std.specs.Prelude.{◌≡◌};
+ghost use Rattle.std.specs.Prelude.{◌≡◌, ◌<◌};
+ghost use Rattle.kernel.specs.Place.{place_at};
 ghost use Rattle.setup.specs.Data.Trusts.{each};
 ghost use Rattle.setup.specs.Shape.{Shaped};
 
 use super::Setup;
+use kernel::Place;
 use std::marker::Model;
 
 // The columns of the data, as they are lent: whatever their lengths.
@@ -63,6 +65,15 @@ impl<'a> Problem<'a> {
     {
         let Problem { setup, .. } = self;
         *setup
+    }
+
+    // Location i.
+    pub fn place(&self, i: usize) -> Place
+        requires { i < self.now.setup.n }
+        ensures { result ≡ place_at self.now.columns.coords i }
+    {
+        let columns = &self.columns;
+        Place::at(columns.coords, i)
     }
 
     pub fn coords(&self) -> &'a [f64]

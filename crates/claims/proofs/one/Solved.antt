@@ -5,12 +5,12 @@ use mathlib.Core.Path.{◌≡◌, refl, subst}
 use mathlib.Core.Bool.{Bool, true, false, cond, not}
 use mathlib.Core.Logic.{inl, inr}
 use Prim.Native.Nat.{ℕ, ◌+◌}
+use mathlib.Core.List.{[]}
 use lib.Ieee.{Float, lt}
-use Rattle.std.specs.Prelude.{Ok, Err}
-use Rattle.claims.specs.Words.{zero64, Row, Matrix, Refusal, WeightSumNotPositive, Singular, InverseNotFinite, CoefficientNotFinite, Check, judge, Decides, GwrBandwidth, Setup, Data, local_bandwidth_distance, weights_at, equations_of, inverse_finite, coefficients_of, coefficients_finite, refused_with, from_inverse, eliminated_of, coefficients_under, fit_coefficients, Values, outcome_of, solve_local, solve_location}
+use Rattle.std.specs.Prelude.{Ok, Err, Option, None, Some, is_none}
+use Rattle.claims.specs.Words.{zero64, Row, Matrix, Refusal, WeightSumNotPositive, Singular, InverseNotFinite, CoefficientNotFinite, Check, judge, Decides, GwrBandwidth, Setup, Data, local_bandwidth_distance, weights_at, equations_of, inverse_finite, coefficients_of, coefficients_finite, from_inverse, eliminated_of, coefficients_under, fit_coefficients, Values, solve_local, solve_location, Coefficients, from_eliminated, solved_by}
+use Rattle.std.specs.Option.{unwrap_or}
 use Rattle.claims.proofs.Laws.{AtLocation}
-use Rattle.estimate.specs.declared.Estimated.{Estimated}
-use Rattle.estimate.specs.declared.Estimate.TheVariants as estimate
 use Rattle.claims.specs.DemandOne.{solve_tests, Found, Met}
 
 pub at_met : (r : Refusal) → AtLocation r → Met r
@@ -34,37 +34,40 @@ module _ (u : Setup) (d : Data) (b : GwrBandwidth) (i : ℕ) where
   abbrev m : ℕ
   m = u.p + 1
 
-  abbrev e : Bool × Matrix
-  e = eliminated_of u d w
+  abbrev rhs : Row
+  rhs = (equations_of u d w).rhs
 
-  abbrev beta : Row
-  beta = coefficients_of e.1 (equations_of u d w).1 m
+  -- by the eliminated matrix, whether its inverse is finite, and whether the coefficients are
+  abbrev tested_further : Bool → Bool → Check
+  tested_further f g = cond (not f) (Err InverseNotFinite) (cond (not g) (Err CoefficientNotFinite) Ok tt)
 
-  -- by whether the matrix is not singular, the inverse finite, and the coefficients finite
-  abbrev tested : Bool → Bool → Bool → Check
-  tested s f g = cond (not s) (Err Singular) (cond (not f) (Err InverseNotFinite) (cond (not g) (Err CoefficientNotFinite) (Ok tt)))
+  abbrev tested : Option Matrix → Check
+  tested e =
+      let a = unwrap_or e [] in
+      cond (is_none e) (Err Singular) (tested_further (inverse_finite a m) (coefficients_finite (coefficients_of a rhs m) m))
 
-  abbrev estimated : Bool → Bool → Bool → Estimated
-  estimated s f g = cond s (cond f (cond g (record { estimate = estimate.Fitted; beta = beta }) (refused_with CoefficientNotFinite)) (refused_with InverseNotFinite)) (refused_with Singular)
+  two : (f g : Bool) (c : Coefficients) (v : Coefficients → Values)
+      → As (tested_further f g) (solved_by (cond f (cond g (Ok c) (Err CoefficientNotFinite)) (Err InverseNotFinite)) v)
+  unfolding solved_by
+  two true true c v = tt
+  two true false c v = refl
+  two false g c v = refl
 
-  three : (s f g : Bool) (v : Values) (beta : Row) → As (tested s f g) (outcome_of (estimated s f g).estimate v beta)
-  unfolding outcome_of
-  three true true true v beta = tt
-  three true true false v beta = refl
-  three true false g v beta = refl
-  three false f g v beta = refl
+  three : (e : Option Matrix) (v : Coefficients → Values) → As (tested e) (solved_by (from_eliminated e rhs m) v)
+  unfolding solved_by from_eliminated from_inverse
+  three None v = refl
+  three (Some a) v = two (inverse_finite a m) (coefficients_finite (coefficients_of a rhs m) m) _ v
 
   -- and before these by whether the weights sum to more than zero
-  four : (z s f g : Bool) (a zeros : Matrix) (v : Values)
-      → let t = (cond {A = Estimated × Matrix} z (estimated s f g, a) (refused_with WeightSumNotPositive, zeros)).0 in
-      As (cond (not z) (Err WeightSumNotPositive) (tested s f g)) (outcome_of t.estimate v t.beta)
-  unfolding outcome_of
-  four true s f g a zeros v = three s f g v _
-  four false s f g a zeros v = refl
+  four : (z : Bool) (e : Option Matrix) (v : Coefficients → Values)
+      → As (cond (not z) (Err WeightSumNotPositive) (tested e)) (solved_by (cond z (from_eliminated e rhs m) (Err WeightSumNotPositive)) v)
+  unfolding solved_by
+  four true e v = three e v
+  four false e v = refl
 
   solve_as : As (judge (solve_tests u d b i)) (solve_location u d b i)
-  unfolding judge solve_location solve_local fit_coefficients coefficients_under from_inverse
-  solve_as = four (lt zero64 s.1) e.0 (inverse_finite e.1 m) (coefficients_finite beta m) _ _ _
+  unfolding judge solve_location solve_local fit_coefficients coefficients_under
+  solve_as = four (lt zero64 s.1) (eliminated_of u d w) _
 
   pub solve_decides : Decides (solve_tests u d b i) (λ (r : Refusal). solve_location u d b i ≡ Err r) (Found (solve_location u d b i))
   solve_decides =

@@ -2,16 +2,16 @@
 use mathlib.Core.Path.{sym}
 use Rattle.estimate.proofs.Blind.{fit_blind}
 use Rattle.evaluate.proofs.Blind.{values_blind}
-use Rattle.local.specs.Solve.{outcome_of, solve_local}
+use Rattle.local.specs.Solve.{solved_by, solve_local}
 use Rattle.local.proofs.solve.solve_local.Goals as goal
 
-pub returns-in-Fitted : goal.returns-in-Fitted
-unfolding outcome_of solve_local
-returns-in-Fitted c =
-    sym (rw (← c.weigh-sum.ensures, fit_blind, values_blind, ← c.fit_coefficients-e.ensures, c.in-Fitted.is, ← c.values_at-values.ensures))
+pub returns-in-Ok : goal.returns-in-Ok
+unfolding solved_by solve_local
+returns-in-Ok c =
+    sym (rw (← c.weigh-sum.ensures, fit_blind, ← c.fit_coefficients.ensures, c.in-Ok.is, values_blind, ← c.values_at-values.ensures))
 
 -- the coefficients were not found
-pub returns-in-Failed : goal.returns-in-Failed
-unfolding outcome_of solve_local
-returns-in-Failed c =
-    sym (rw (← c.weigh-sum.ensures, fit_blind, ← c.fit_coefficients-e.ensures, c.in-Failed.is))
+pub returns-in-Err : goal.returns-in-Err
+unfolding solved_by solve_local
+returns-in-Err c =
+    sym (rw (← c.weigh-sum.ensures, fit_blind, ← c.fit_coefficients.ensures, c.in-Err.is))
