@@ -42,6 +42,7 @@ impl Text<'_> {
     }
 
     // The lowest hexadecimal digits of v, as many as there are places: those of v / 16 come before the last.
+    // Not one function with `decimal`: these end at the last place, those where nothing is left of v.
     fn hex(&mut self, v: u64, places: usize)
         requires { self.old.len + places ≤ length self.old.bytes.now }
         ensures same_bytes { self.new.bytes.ghost_name ≡ self.old.bytes.ghost_name }
@@ -110,6 +111,7 @@ impl Text<'_> {
         ensures same_bytes { self.new.bytes.ghost_name ≡ self.old.bytes.ghost_name }
         ensures written { WrittenText self.old.bytes.now self.old.len (bits_texts (loads out.now first count)) self.new.bytes.now self.new.len }
     {
+        // An index: chunks of out[8 * first..8 * (first + count)] are no plainer.
         for k in 0..count {
             self.bits(wire::load(out, 8 * (first + k)));
         }
