@@ -41,7 +41,7 @@ fn store_rows(rows: &[f64], count: usize, out: &mut [u8])
     requires { (count ≤ length rows.now) × (8 * count ≤ length out.old) }
     ensures { out.new ≡ placed out.old 0 (real_bytes (take count rows.now)) }
 {
-    wire::encode(rows, out, count);
+    wire::encode(&rows[..count], out);
 }
 
 // The fit of decoded numbers, every observation fully trusted, with `rows` as its output. Rows and summary go out as bytes, unless
@@ -89,14 +89,17 @@ fn fit_parts(
     let mut predictors = [0.0; 3584];
     let mut responses = [0.0; 512];
     let mut rows = [0.0; 5632];
-    wire::decode(coords, &mut places, 2 * n);
-    wire::decode(x, &mut predictors, n * p);
-    wire::decode(y, &mut responses, n);
+    let places = &mut places[..2 * n];
+    let predictors = &mut predictors[..n * p];
+    let responses = &mut responses[..n];
+    wire::decode(coords, &mut *places);
+    wire::decode(x, &mut *predictors);
+    wire::decode(y, &mut *responses);
     let room = room_of(n, p, out.len(), summary.len());
     fitted_bytes(
-        &places[..2 * n],
-        &predictors[..n * p],
-        &responses[..n],
+        &*places,
+        &*predictors,
+        &*responses,
         p,
         options,
         &mut rows[..room],

@@ -13,9 +13,7 @@ use std::io;
 
 // A space and the bits of a real.
 fn print_real(rt: &impl Print, v: f64) -> io::Result<()> {
-    let mut text = [0u8; 17];
-    text::put_bits(&mut text, 0, wire::bits_of(v));
-    rt.write_all(&text)
+    print!(rt; " {:016X}", wire::bits_of(v))
 }
 
 // The line of a fit: no refusal, bandwidth, AICc, solves.
@@ -26,34 +24,16 @@ fn print_summary(rt: &impl Print, s: Summary) -> io::Result<()> {
     println!(rt; " {}", s.solves)
 }
 
-// What stands before number k of rows of this width: the row's own number where it begins one.
-fn print_start(rt: &impl Print, k: usize, width: usize) -> io::Result<()>
-    requires { 0 < width }
-{
-    if k % width == 0 {
-        print!(rt; "row {}", k / width)?;
-    }
-    Ok(())
-}
-
-// What stands behind the first k numbers: the end of a line where they fill their rows.
-fn print_end(rt: &impl Print, k: usize, width: usize) -> io::Result<()>
-    requires { 0 < width }
-{
-    if k % width == 0 {
-        println!(rt)?;
-    }
-    Ok(())
-}
-
 // The lines of whole rows.
 fn print_rows(rt: &impl Print, rows: &[f64], width: usize) -> io::Result<()>
     requires { 0 < width }
 {
-    for k in 0..rows.len() {
-        print_start(rt, k, width)?;
-        print_real(rt, rows[k])?;
-        print_end(rt, k + 1, width)?;
+    for (i, row) in rows.chunks_exact(width).enumerate() {
+        print!(rt; "row {i}")?;
+        for v in row {
+            print_real(rt, *v)?;
+        }
+        println!(rt)?;
     }
     Ok(())
 }
@@ -144,14 +124,27 @@ fn neighbours(rt: &impl Print, name: &str, first: f64, second: f64) -> io::Resul
     show(rt, name, &coords, &x, &y, &trust, 0, options, &mut out)
 }
 
-// One alone, whose trust is its system's only pivot.
-fn alone(rt: &impl Print, name: &str, trust: f64, out: &mut [f64]) -> io::Result<()> {
+// One alone, whose trust is its system's only pivot, with room for so many of its row's four numbers.
+fn alone(rt: &impl Print, name: &str, trust: f64, room: usize) -> io::Result<()>
+    requires { room ≤ 4 }
+{
     let coords = [0.0, 0.0];
     let x = [0.0; 0];
     let y = [5.0];
     let trusts = [trust];
     let options = by_distance(GwrKernel::Gaussian, 1.0);
-    show(rt, name, &coords, &x, &y, &trusts, 0, options, out)
+    let mut out = [0.0; 4];
+    show(
+        rt,
+        name,
+        &coords,
+        &x,
+        &y,
+        &trusts,
+        0,
+        options,
+        &mut out[..room],
+    )
 }
 
 // Four with one predictor.
@@ -161,18 +154,6 @@ fn four(rt: &impl Print, name: &str, trust: &[f64], options: GwrOptions) -> io::
     let y = [2.0, 3.0, 5.0, 9.0];
     let mut out = [0.0; 20];
     show(rt, name, &coords, &x, &y, trust, 1, options, &mut out)
-}
-
-// One alone, with room for its row.
-fn one(rt: &impl Print, name: &str, trust: f64) -> io::Result<()> {
-    let mut out = [0.0; 4];
-    alone(rt, name, trust, &mut out)
-}
-
-// The same with room for less.
-fn one_short(rt: &impl Print, name: &str, trust: f64) -> io::Result<()> {
-    let mut out = [0.0; 3];
-    alone(rt, name, trust, &mut out)
 }
 
 fn surprises(rt: &impl Print) -> io::Result<()> {
@@ -186,15 +167,15 @@ fn surprises(rt: &impl Print) -> io::Result<()> {
 }
 
 fn alone_each(rt: &impl Print) -> io::Result<()> {
-    one(rt, "alone, trust 1e-13", 1e-13)?;
-    one(rt, "alone, trust 1e-11", 1e-11)?;
-    one(rt, "alone, trust 0", 0.0)?;
-    one(rt, "alone, trust -0", -0.0)?;
-    one(rt, "alone, trust NaN", 0.0 / 0.0)?;
-    one(rt, "alone, trust -1e-300", -1e-300)?;
-    one(rt, "alone, trust 1.0000000000000002", 1.0000000000000002)?;
-    one_short(rt, "alone, trust 2, the output too short", 2.0)?;
-    one_short(rt, "alone, trust 1, the output too short", 1.0)
+    alone(rt, "alone, trust 1e-13", 1e-13, 4)?;
+    alone(rt, "alone, trust 1e-11", 1e-11, 4)?;
+    alone(rt, "alone, trust 0", 0.0, 4)?;
+    alone(rt, "alone, trust -0", -0.0, 4)?;
+    alone(rt, "alone, trust NaN", 0.0 / 0.0, 4)?;
+    alone(rt, "alone, trust -1e-300", -1e-300, 4)?;
+    alone(rt, "alone, trust 1.0000000000000002", 1.0000000000000002, 4)?;
+    alone(rt, "alone, trust 2, the output too short", 2.0, 3)?;
+    alone(rt, "alone, trust 1, the output too short", 1.0, 3)
 }
 
 fn four_each(rt: &impl Print) -> io::Result<()> {

@@ -39,7 +39,7 @@ module _ (u : Setup) (d : Data) (b : GwrBandwidth) (i : ℕ) where
 
   -- by the eliminated matrix, whether its inverse is finite, and whether the coefficients are
   abbrev tested_further : Bool → Bool → Check
-  tested_further f g = cond (not f) (Err InverseNotFinite) (cond (not g) (Err CoefficientNotFinite) Ok tt)
+  tested_further f g = cond (not f) (Err InverseNotFinite) (cond (not g) (Err CoefficientNotFinite) (Ok tt))
 
   abbrev tested : Option Matrix → Check
   tested e =
