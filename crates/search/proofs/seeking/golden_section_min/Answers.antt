@@ -12,7 +12,7 @@ use Rattle.search.proofs.Memos.{forgotten}
 use Rattle.search.proofs.seeking.golden_section_min.Goals as goal
 
 pub opened_of-s-requires : goal.opened_of-s-requires
-opened_of-s-requires c = record { shaped = c.requires; remembered = forgotten _ _ _ }
+opened_of-s-requires c = record { shaped = c.requires; remembered = forgotten _ _ }
 
 pub loop-r-init : goal.loop-r-init
 loop-r-init c =
