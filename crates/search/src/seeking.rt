@@ -1,5 +1,5 @@
 // 000's `golden_section_min`, whose scores are trials, and the bandwidth that it comes to.
-ghost use Rattle.std.specs.Prelude.{◌≡◌, ◌*◌, ◌≤◌};
+ghost use Rattle.std.specs.Prelude.{◌≡◌, ◌*◌, ◌≤◌, false};
 ghost use Rattle.setup.specs.Data.{trusted_data};
 ghost use Rattle.setup.specs.Shape.{Shaped};
 ghost use Rattle.search.specs.Memo.{Remembered};
@@ -36,7 +36,7 @@ fn opened_of(
     }
 }
 
-// One round of the search, or nothing once it is over.
+// One round of a search that is not over.
 fn round_of(
     s: Search,
     coords: &[f64],
@@ -49,13 +49,11 @@ fn round_of(
 ) -> Search
     requires shaped { Shaped u (trusted_data coords.now x.now y.now trust.now) }
     requires remembered { Remembered u (trusted_data coords.now x.now y.now trust.now) tried.old }
+    requires going { s.over ≡ false }
     requires few_solves { s.solves ≤ 512 * 102 }
     ensures value { result ≡ round_of u (trusted_data coords.now x.now y.now trust.now) r s }
     ensures still_remembered { Remembered u (trusted_data coords.now x.now y.now trust.now) tried.new }
 {
-    if s.over {
-        return s;
-    }
     let g = s.bracket;
     let t = trial_of(coords, x, y, trust, u, g.aim(), tried);
     let next = g.narrow(t.score);
@@ -84,6 +82,9 @@ fn golden_section_min(
     let mut s = opened_of(coords, x, y, trust, u, g, &mut tried);
     for r in 0..100usize {
         s = round_of(s, coords, x, y, trust, u, r, &mut tried);
+        if s.over {
+            return s;
+        }
     }
     s
 }
