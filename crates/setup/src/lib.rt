@@ -60,23 +60,14 @@ impl GwrOptions {
     pub fn default_options() -> Self
         ensures { result ≡ default_options }
     {
-        let kernel = GwrKernel::Bisquare;
-        let bandwidth = GwrBandwidth::AdaptiveKnn(0);
-        GwrOptions::unguarded(kernel, bandwidth, false)
+        GwrOptions::unguarded(GwrKernel::Bisquare, GwrBandwidth::AdaptiveKnn(0), false)
     }
 
     // The same judged by another criterion.
     pub fn judged_by(self, criterion: GwrCriterion) -> Self
         ensures { result ≡ judged_by criterion self }
     {
-        let kernel = self.kernel;
-        let bandwidth = self.bandwidth;
-        GwrOptions {
-            kernel,
-            bandwidth,
-            optimize_bandwidth: self.optimize_bandwidth,
-            criterion,
-        }
+        GwrOptions { criterion, ..self }
     }
 }
 
