@@ -16,6 +16,13 @@ pub struct Trial {
     pub solves: u64,
 }
 
+// A trial that was made: what tells its bandwidth, and what it gave.
+#[derive(Clone, Copy)]
+pub struct Tried {
+    pub key: u64,
+    pub trial: Trial,
+}
+
 // A search: its bracket, whether the bracket has become too narrow to go on, and the solves of all its trials.
 #[derive(Clone, Copy)]
 pub struct Search {

@@ -1,12 +1,12 @@
 // 000's `golden_section_min`, whose scores are trials, and the bandwidth that it comes to.
-ghost use Rattle.std.specs.Prelude.{◌≡◌, ◌*◌, ◌≤◌};
+ghost use Rattle.std.specs.Prelude.{◌≡◌, ◌*◌, ◌≤◌, false};
 ghost use Rattle.setup.specs.Data.{trusted_data};
 ghost use Rattle.setup.specs.Shape.{Shaped};
 ghost use Rattle.search.specs.Memo.{Remembered};
 ghost use Rattle.search.specs.Search.{round_of, opened_of, golden_of, optimize_bandwidth};
 
 use super::memory::trial_of;
-use super::{Optimum, Search};
+use super::{Optimum, Search, Tried};
 use golden::Bracket;
 use setup::Setup;
 
@@ -18,16 +18,15 @@ fn opened_of(
     trust: &[f64],
     u: Setup,
     g: Bracket,
-    tried: &mut [[u64; 2]; 102],
-    scores: &mut [f64; 102],
+    tried: &mut [Option<Tried>; 102],
 ) -> Search
     requires shaped { Shaped u (trusted_data coords.now x.now y.now trust.now) }
-    requires remembered { Remembered u (trusted_data coords.now x.now y.now trust.now) tried.old scores.old }
+    requires remembered { Remembered u (trusted_data coords.now x.now y.now trust.now) tried.old }
     ensures value { result ≡ opened_of u (trusted_data coords.now x.now y.now trust.now) g }
-    ensures still_remembered { Remembered u (trusted_data coords.now x.now y.now trust.now) tried.new scores.new }
+    ensures still_remembered { Remembered u (trusted_data coords.now x.now y.now trust.now) tried.new }
 {
-    let first = trial_of(coords, x, y, trust, u, g.c, &mut *tried, &mut *scores);
-    let second = trial_of(coords, x, y, trust, u, g.d, tried, scores);
+    let first = trial_of(coords, x, y, trust, u, g.c, &mut *tried);
+    let second = trial_of(coords, x, y, trust, u, g.d, tried);
     let half = g.first(first.score);
     let scored = half.second(second.score);
     Search {
@@ -37,7 +36,7 @@ fn opened_of(
     }
 }
 
-// One round of the search, or nothing once it is over.
+// One round of a search that is not over.
 fn round_of(
     s: Search,
     coords: &[f64],
@@ -46,20 +45,17 @@ fn round_of(
     trust: &[f64],
     u: Setup,
     r: usize,
-    tried: &mut [[u64; 2]; 102],
-    scores: &mut [f64; 102],
+    tried: &mut [Option<Tried>; 102],
 ) -> Search
     requires shaped { Shaped u (trusted_data coords.now x.now y.now trust.now) }
-    requires remembered { Remembered u (trusted_data coords.now x.now y.now trust.now) tried.old scores.old }
+    requires remembered { Remembered u (trusted_data coords.now x.now y.now trust.now) tried.old }
+    requires going { s.over ≡ false }
     requires few_solves { s.solves ≤ 512 * 102 }
     ensures value { result ≡ round_of u (trusted_data coords.now x.now y.now trust.now) r s }
-    ensures still_remembered { Remembered u (trusted_data coords.now x.now y.now trust.now) tried.new scores.new }
+    ensures still_remembered { Remembered u (trusted_data coords.now x.now y.now trust.now) tried.new }
 {
-    if s.over {
-        return s;
-    }
     let g = s.bracket;
-    let t = trial_of(coords, x, y, trust, u, g.aim(), tried, scores);
+    let t = trial_of(coords, x, y, trust, u, g.aim(), tried);
     let next = g.narrow(t.score);
     Search {
         bracket: next,
@@ -81,12 +77,14 @@ fn golden_section_min(
     requires { Shaped u (trusted_data coords.now x.now y.now trust.now) }
     ensures { result ≡ golden_of u (trusted_data coords.now x.now y.now trust.now) lo hi }
 {
-    let mut tried = [[0u64; 2]; 102];
-    let mut scores = [0.0; 102];
+    let mut tried = [None; 102];
     let g = Bracket::start(lo, hi);
-    let mut s = opened_of(coords, x, y, trust, u, g, &mut tried, &mut scores);
+    let mut s = opened_of(coords, x, y, trust, u, g, &mut tried);
     for r in 0..100usize {
-        s = round_of(s, coords, x, y, trust, u, r, &mut tried, &mut scores);
+        s = round_of(s, coords, x, y, trust, u, r, &mut tried);
+        if s.over {
+            return s;
+        }
     }
     s
 }

@@ -64,14 +64,7 @@ impl GwrOptions {
     pub fn judged_by(self, criterion: GwrCriterion) -> Self
         ensures { result ≡ judged_by criterion self }
     {
-        let kernel = self.kernel;
-        let bandwidth = self.bandwidth;
-        GwrOptions {
-            kernel,
-            bandwidth,
-            optimize_bandwidth: self.optimize_bandwidth,
-            criterion,
-        }
+        GwrOptions { criterion, ..self }
     }
 }
 
