@@ -5,6 +5,7 @@ ghost use Rattle.std.specs.Prelude.{◌≡◌, ◌*◌, ◌≤◌, ◌<◌, leng
 ghost use Rattle.setup.specs.Shape.{Sized};
 ghost use Rattle.bounds.specs.Bounds.{greatest_distance, least_distance, usable_distance, least_count, greatest_count, bandwidth_at};
 
+use kernel::Place;
 use setup::{GwrBandwidth, Setup};
 
 // The greatest distance between two pantries, 0 where there is no pair.
@@ -15,10 +16,16 @@ pub fn greatest_distance(coords: &[f64], n: usize) -> f64
     let (pantries, _) = coords.as_chunks::<2>();
     let mut most = 0.0;
     for i in 0..n {
-        let here = pantries[i];
+        let here = Place {
+            east: pantries[i][0],
+            north: pantries[i][1],
+        };
         for there in &pantries[i + 1..] {
-            let d = kernel::distance(here[0], here[1], there[0], there[1]);
-            most = real::max(most, d);
+            let there = Place {
+                east: there[0],
+                north: there[1],
+            };
+            most = real::max(most, here.distance(there));
         }
     }
     most

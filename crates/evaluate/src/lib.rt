@@ -2,12 +2,11 @@
 #![tactic(auto)]
 
 ghost use Rattle.std.specs.Prelude.{◌≡◌, ◌+◌, ◌≤◌, ◌<◌, length};
-ghost use Rattle.setup.specs.Data.{data_of};
-ghost use Rattle.setup.specs.Shape.{Shaped};
 ghost use Rattle.normal.specs.Design.{design_of};
 ghost use Rattle.evaluate.specs.Evaluate.{inner_product, hat_diagonal, add_squares, sum_squares, explained_share, local_r_squared, values_at};
 
-use setup::Setup;
+use estimate::Coefficients;
+use setup::Problem;
 
 // What a local solve gives beside the coefficients.
 #[derive(Clone, Copy)]
@@ -60,27 +59,24 @@ fn add_squares(s: Squares, w: f64, y: f64, mean: f64, fitted: f64) -> Squares
 
 // Both sums of squares over observations in order, leaving out weight 0.
 fn sum_squares(
-    coords: &[f64],
-    x: &[f64],
-    y: &[f64],
-    u: Setup,
+    problem: &Problem<'_>,
     w: &[f64; 512],
     beta: [f64; 8],
     mean: f64,
 ) -> Squares
-    requires { Shaped u (data_of coords.now x.now y.now) }
-    ensures { result ≡ sum_squares u (data_of coords.now x.now y.now) w.now beta mean }
+    ensures { result ≡ sum_squares problem.now.setup problem.now.columns w.now beta mean }
 {
     let mut s = Squares {
         total: 0.0,
         residual: 0.0,
     };
+    let y = problem.responses();
     // An index: chunks of no predictors cannot be zipped.
-    for j in 0..u.n {
+    for j in 0..y.len() {
         if w[j] == 0.0 {
             continue;
         }
-        let own = normal::predictors_of(x, u.n, u.p, j);
+        let own = normal::predictors_of(problem, j);
         s = add_squares(s, w[j], y[j], mean, fitted(&beta, own));
     }
     s
@@ -99,43 +95,37 @@ fn explained_share(s: Squares) -> f64
 
 // 000's `local_r_squared`, of a fit with these coefficients under weights with this sum.
 fn local_r_squared(
-    coords: &[f64],
-    x: &[f64],
-    y: &[f64],
-    u: Setup,
+    problem: &Problem<'_>,
     w: &[f64; 512],
     beta: [f64; 8],
     sum: f64,
 ) -> f64
-    requires { Shaped u (data_of coords.now x.now y.now) }
-    ensures { result ≡ local_r_squared u (data_of coords.now x.now y.now) w.now beta sum }
+    ensures { result ≡ local_r_squared problem.now.setup problem.now.columns w.now beta sum }
 {
-    let mean = estimate::inner_product(0.0, &w[..u.n], y) / sum;
-    explained_share(sum_squares(coords, x, y, u, w, beta, mean))
+    let y = problem.responses();
+    let mean = estimate::inner_product(0.0, &w[..y.len()], y) / sum;
+    explained_share(sum_squares(problem, w, beta, mean))
 }
 
 // What the fit with these coefficients says of location i.
 pub fn values_at(
-    coords: &[f64],
-    x: &[f64],
-    y: &[f64],
-    u: Setup,
+    problem: &Problem<'_>,
     w: &[f64; 512],
     i: usize,
-    inverse: &[[f64; 16]; 8],
-    beta: [f64; 8],
+    fit: &Coefficients,
     sum: f64,
 ) -> Values
-    requires shaped { Shaped u (data_of coords.now x.now y.now) }
-    requires is_location { i < u.n }
-    ensures { result ≡ values_at u (data_of coords.now x.now y.now) w.now i inverse.now beta sum }
+    requires { i < problem.now.setup.n }
+    ensures { result ≡ values_at problem.now.setup problem.now.columns w.now i fit.now.inverse fit.now.beta sum }
 {
-    let row = normal::design_row(x, u.n, u.p, i);
-    let predicted = fitted(&beta, normal::predictors_of(x, u.n, u.p, i));
+    let p = problem.setup().p;
+    let y = problem.responses();
+    let row = normal::design_row(problem, i);
+    let predicted = fitted(&fit.beta, normal::predictors_of(problem, i));
     Values {
         predicted,
         residual: y[i] - predicted,
-        local_r2: local_r_squared(coords, x, y, u, w, beta, sum),
-        leverage: hat_diagonal(inverse, row, w[i], u.p + 1),
+        local_r2: local_r_squared(problem, w, fit.beta, sum),
+        leverage: hat_diagonal(&fit.inverse, row, w[i], p + 1),
     }
 }

@@ -4,15 +4,15 @@
 ghost use Rattle.std.specs.Prelude.{◌≡◌, ◌&&◌, ◌*◌, ◌≤◌, length};
 ghost use Rattle.std.specs.Float.Ieee.Scale.{finite};
 ghost use Rattle.real.specs.Finite.{all_finite, in_unit, all_in_unit};
-ghost use Rattle.setup.specs.Data.{trusted_data};
+ghost use Rattle.setup.specs.Data.{trust_count};
 ghost use Rattle.setup.specs.Shape.{Sized};
 ghost use Rattle.checks.specs.Judge.{judge};
-ghost use Rattle.input.specs.Checks.{shape_tests, value_tests, output_tests, room_tests, input_tests, lengths_fit, unusable_given, seeks_distance, nothing_between, option_tests_at};
+ghost use Rattle.input.specs.Checks.{trusts_fit, shape_tests, value_tests, output_tests, room_tests, input_tests, lengths_fit, unusable_given, seeks_distance, nothing_between, option_tests_at};
 
 use bounds::usable_distance;
 use real::{all_finite, all_in_unit};
 use refusal::Refusal;
-use setup::{GwrBandwidth, GwrOptions, Setup};
+use setup::{Columns, GwrBandwidth, GwrOptions, Setup};
 
 // Refusals 1 to 7: the lengths of the slices and the number of predictors.
 fn check_shape(coords: usize, x: usize, y: usize, trusts: usize, p: usize) -> Result<(), Refusal>
@@ -47,19 +47,19 @@ fn check_shape(coords: usize, x: usize, y: usize, trusts: usize, p: usize) -> Re
 }
 
 // Refusals 8 to 10, a response, coordinate or predictor that is not finite, and 26, a trust that is not in 0..1.
-pub fn check_values(coords: &[f64], x: &[f64], y: &[f64], trust: &[f64]) -> Result<(), Refusal>
-    ensures { result ≡ judge (value_tests (trusted_data coords.now x.now y.now trust.now)) }
+pub fn check_values(columns: &Columns<'_>) -> Result<(), Refusal>
+    ensures { result ≡ judge (value_tests columns.now) }
 {
-    if !all_finite(y) {
+    if !all_finite(columns.responses) {
         return Err(Refusal::ResponseNotFinite);
     }
-    if !all_finite(coords) {
+    if !all_finite(columns.coords) {
         return Err(Refusal::CoordinateNotFinite);
     }
-    if !all_finite(x) {
+    if !all_finite(columns.predictors) {
         return Err(Refusal::PredictorNotFinite);
     }
-    if !all_in_unit(trust) {
+    if !all_in_unit(columns.trusts) {
         return Err(Refusal::TrustOutOfRange);
     }
     Ok(())
@@ -74,7 +74,7 @@ fn observation_good(v: f64, east: f64, north: f64, trust: f64) -> bool
     (z <= trust) & (trust <= 1.0)
 }
 
-// Whether all observations are good.
+// Whether all observations are good. By an index: coordinates stand two by two beside responses and trusts.
 fn observations_good(coords: &[f64], y: &[f64], trust: &[f64]) -> bool
     requires { (length coords.now ≡ 2 * length y.now) × (length trust.now ≡ length y.now) }
     ensures { result ≡ (all_finite y.now && all_finite coords.now && all_in_unit trust.now) }
@@ -88,12 +88,12 @@ fn observations_good(coords: &[f64], y: &[f64], trust: &[f64]) -> bool
 }
 
 // Whether none of these refusals is met, in one walk that does not ask which.
-pub fn values_good(coords: &[f64], x: &[f64], y: &[f64], trust: &[f64]) -> bool
-    requires { (length coords.now ≡ 2 * length y.now) × (length trust.now ≡ length y.now) }
-    ensures { result ≡ (all_finite y.now && all_finite coords.now && all_in_unit trust.now && all_finite x.now) }
+pub fn values_good(columns: &Columns<'_>) -> bool
+    requires { (length columns.now.coords ≡ 2 * length columns.now.responses) × (trust_count columns.now ≡ length columns.now.responses) }
+    ensures { result ≡ (all_finite columns.now.responses && all_finite columns.now.coords && trusts_fit columns.now.trusts && all_finite columns.now.predictors) }
 {
-    let here = observations_good(coords, y, trust);
-    here & all_finite(x)
+    let here = observations_good(columns.coords, columns.responses, columns.trusts);
+    here & all_finite(columns.predictors)
 }
 
 // Refusal 13: an output with no room for n rows.
@@ -117,28 +117,31 @@ pub fn check_room(u: Setup, out: usize) -> Result<(), Refusal>
 
 // Refusals 1 to 7, 8 to 10, 26 and 13. `out` is the output's length.
 pub fn check_input(
-    coords: &[f64],
-    x: &[f64],
-    y: &[f64],
-    trust: &[f64],
+    columns: &Columns<'_>,
     p: usize,
     out: usize,
 ) -> Result<(), Refusal>
-    ensures { result ≡ judge (input_tests (trusted_data coords.now x.now y.now trust.now) p out) }
+    ensures { result ≡ judge (input_tests columns.now p out) }
 {
-    check_shape(coords.len(), x.len(), y.len(), trust.len(), p)?;
-    check_values(coords, x, y, trust)?;
-    check_output(coords.len() / 2, p, out)
+    check_shape(
+        columns.coords.len(),
+        columns.predictors.len(),
+        columns.responses.len(),
+        columns.trusts.len(),
+        p,
+    )?;
+    check_values(columns)?;
+    check_output(columns.coords.len() / 2, p, out)
 }
 
 // Whether the slices have the lengths that the job's sizes say.
-pub fn lengths_fit(coords: &[f64], x: &[f64], y: &[f64], trust: &[f64], u: Setup) -> bool
+pub fn lengths_fit(columns: &Columns<'_>, u: Setup) -> bool
     requires { Sized u }
-    ensures { result ≡ lengths_fit u (trusted_data coords.now x.now y.now trust.now) }
+    ensures { result ≡ lengths_fit u columns.now }
 {
-    let answers = (y.len() == u.n) & (trust.len() == u.n);
-    let rest = (x.len() == u.n * u.p) & answers;
-    (coords.len() == 2 * u.n) & rest
+    let answers = (columns.responses.len() == u.n) & (columns.trusts.len() == u.n);
+    let rest = (columns.predictors.len() == u.n * u.p) & answers;
+    (columns.coords.len() == 2 * u.n) & rest
 }
 
 // Whether a distance is given that cannot be used.

@@ -1,6 +1,5 @@
 // What the options ask for, and what is said of an input.
 ghost use Rattle.std.specs.Prelude.{◌≡◌, ◌*◌, ◌≤◌, length};
-ghost use Rattle.setup.specs.Data.{trusted_data};
 ghost use Rattle.setup.specs.Shape.{Sized};
 ghost use Rattle.bounds.specs.Bounds.{greatest_distance};
 ghost use Rattle.plan.specs.Plan.{resolve_initial_bandwidth, distance_plan, count_plan, search_plan, plan_at, plan_options_at, accept_of};
@@ -9,7 +8,7 @@ use super::Plan;
 use bounds::{greatest_count, greatest_distance, least_count, least_distance};
 use input::{check_input, check_options, seeks_distance};
 use refusal::Refusal;
-use setup::{GwrBandwidth, GwrOptions, Setup};
+use setup::{Columns, GwrBandwidth, GwrOptions, Setup};
 
 // The bandwidth given, a count resolved.
 fn resolve_initial_bandwidth(bandwidth: GwrBandwidth, n: usize, p: usize) -> GwrBandwidth
@@ -94,17 +93,14 @@ pub fn plan_options(coords: &[f64], u: Setup) -> Result<Plan, Refusal>
 
 // The input checks in order: what an accepted job does, or the first refusal. `out` is the output's length.
 pub fn accept(
-    coords: &[f64],
-    x: &[f64],
-    y: &[f64],
-    trust: &[f64],
+    columns: &Columns<'_>,
     p: usize,
     options: GwrOptions,
     out: usize,
 ) -> Result<Plan, Refusal>
-    ensures { result ≡ accept_of (trusted_data coords.now x.now y.now trust.now) p options out }
+    ensures { result ≡ accept_of columns.now p options out }
 {
-    check_input(coords, x, y, trust, p, out)?;
-    let n = coords.len() / 2;
-    plan_options(coords, Setup { options, n, p })
+    check_input(columns, p, out)?;
+    let n = columns.coords.len() / 2;
+    plan_options(columns.coords, Setup { options, n, p })
 }

@@ -1,14 +1,12 @@
 // The trials that a search has made. A searched count comes to few counts, and a bracket that has shrunk to the same points
 // again: such trials are looked up, not worked again.
 ghost use Rattle.std.specs.Prelude.{◌≡◌, ◌<◌, length};
-ghost use Rattle.setup.specs.Data.{trusted_data};
-ghost use Rattle.setup.specs.Shape.{Shaped};
 ghost use Rattle.search.specs.Trial.{trial_of};
 ghost use Rattle.search.specs.Memo.{key_of, serves, slot_of, Remembered};
 
 use super::trials::evaluate_aicc;
 use super::{Trial, Tried};
-use setup::{GwrBandwidth, Setup};
+use setup::{GwrBandwidth, Problem};
 
 // What tells a bandwidth from the others of its kind.
 fn key_of(b: GwrBandwidth) -> u64
@@ -43,20 +41,15 @@ fn slot_of(tried: &[Option<Tried>; 102], key: u64) -> usize
 
 // The trial at a point of the search: what an earlier trial at the same bandwidth left, or a sweep, which is remembered.
 pub fn trial_of(
-    coords: &[f64],
-    x: &[f64],
-    y: &[f64],
-    trust: &[f64],
-    u: Setup,
+    problem: &Problem<'_>,
     point: f64,
     tried: &mut [Option<Tried>; 102],
 ) -> Trial
-    requires shaped { Shaped u (trusted_data coords.now x.now y.now trust.now) }
-    requires remembered { Remembered u (trusted_data coords.now x.now y.now trust.now) tried.old }
-    ensures value { result ≡ trial_of u (trusted_data coords.now x.now y.now trust.now) point }
-    ensures still_remembered { Remembered u (trusted_data coords.now x.now y.now trust.now) tried.new }
+    requires remembered { Remembered problem.now.setup problem.now.columns tried.old }
+    ensures value { result ≡ trial_of problem.now.setup problem.now.columns point }
+    ensures still_remembered { Remembered problem.now.setup problem.now.columns tried.new }
 {
-    let b = bounds::bandwidth_at(u, point);
+    let b = bounds::bandwidth_at(problem.setup(), point);
     let key = key_of(b);
     let j = slot_of(&*tried, key);
     if let Some(held) = tried[j] {
@@ -64,7 +57,7 @@ pub fn trial_of(
             return held.trial;
         }
     }
-    let trial = evaluate_aicc(coords, x, y, trust, u, b);
+    let trial = evaluate_aicc(problem, b);
     tried[j] = Some(Tried { key, trial });
     trial
 }

@@ -2,14 +2,13 @@
 #![tactic(auto)]
 
 ghost use Rattle.std.specs.Prelude.{◌≡◌, length};
-ghost use Rattle.setup.specs.Data.{trusted_data};
 ghost use Rattle.setup.specs.Shape.{Sized};
 ghost use Rattle.starting.specs.Begin.{start_job, begin_of};
 
 use golden::Bracket;
 use plan::Plan;
 use refusal::Refusal;
-use setup::{GwrOptions, Setup};
+use setup::{Columns, GwrOptions, Setup};
 use stepping::{Job, Stage};
 
 // The final fit at the bandwidth settled, or the first trial of a search.
@@ -29,21 +28,14 @@ fn start(u: Setup, plan: Plan) -> Job
 
 // The input checks, and a job set up for its first trial or its final fit; a refused beginning makes none.
 pub fn begin(
-    coords: &[f64],
-    x: &[f64],
-    y: &[f64],
-    trust: &[f64],
+    columns: &Columns<'_>,
     p: usize,
     options: GwrOptions,
     out: &[f64],
 ) -> Result<Job, Refusal>
-    ensures { result ≡ begin_of (trusted_data coords.now x.now y.now trust.now) p options (length out.now) }
+    ensures { result ≡ begin_of columns.now p options (length out.now) }
 {
-    match plan::accept(coords, x, y, trust, p, options, out.len()) {
-        Err(r) => Err(r),
-        Ok(plan) => {
-            let n = coords.len() / 2;
-            Ok(start(Setup { options, n, p }, plan))
-        }
-    }
+    let plan = plan::accept(columns, p, options, out.len())?;
+    let n = columns.coords.len() / 2;
+    Ok(start(Setup { options, n, p }, plan))
 }

@@ -2,15 +2,13 @@
 #![tactic(auto)]
 
 ghost use Rattle.std.specs.Prelude.{◌≡◌, ◌+◌, ◌*◌, ◌≤◌, length};
-ghost use Rattle.setup.specs.Data.{trusted_data};
-ghost use Rattle.setup.specs.Shape.{Shaped};
 ghost use Rattle.stepping.specs.Step.{is_ended, is_final, ended_solve, fresh_job, next_sweep, close_first, close_second, close_round, is_last_round, end_job, close_job, solved_job, pass_job, after_outcome, step_of};
 ghost use Rattle.stepping.specs.Sound.{Sound};
 
 use golden::Bracket;
 use local::Solved;
 use refusal::Refusal;
-use setup::{GwrBandwidth, Setup};
+use setup::{GwrBandwidth, Problem, Setup};
 use sweep::Sweep;
 
 // What a job is at: its first trial, its second, a round's, its final fit; or it has ended.
@@ -191,15 +189,15 @@ impl Job {
 
     // One local solve.
     #[tactic(auto, unfolding(crate::specs::Step::step_of, crate::specs::Step::step_job, crate::specs::Step::step_out))]
-    pub fn step(self, coords: &[f64], x: &[f64], y: &[f64], trust: &[f64], out: &mut [f64]) -> Self
+    pub fn step(self, problem: &Problem<'_>, out: &mut [f64]) -> Self
         requires sound { Sound 0 self }
-        requires shaped { Shaped self.setup (trusted_data coords.now x.now y.now trust.now) }
+        requires own { problem.now.setup ≡ self.setup }
         requires room { self.setup.n * (self.setup.p + 4) ≤ length out.old }
-        ensures { (result, out.new) ≡ step_of (trusted_data coords.now x.now y.now trust.now) (self, out.old) }
+        ensures { (result, out.new) ≡ step_of problem.now.columns (self, out.old) }
     {
         let u = self.setup;
         let i = self.sweep.location;
-        let outcome = local::solve_location(coords, x, y, trust, u, self.bandwidth, i);
+        let outcome = local::solve_location(problem, self.bandwidth, i);
         sweep::write_row(out, self.stage.is_final(), u, i, outcome);
         self.after_outcome(outcome)
     }

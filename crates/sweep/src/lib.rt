@@ -4,8 +4,6 @@
 
 ghost use Rattle.std.specs.Prelude.{◌≡◌, ◌+◌, ◌*◌, ◌≤◌, ◌<◌, length};
 ghost use Rattle.setup.specs.Bandwidth.{Usable};
-ghost use Rattle.setup.specs.Data.{trusted_data};
-ghost use Rattle.setup.specs.Shape.{Shaped};
 ghost use Rattle.sweep.specs.Sweep.{new_sweep, add_values, next_location, row_after, fit_all_locations, solves_of, ending_of, RoomFor};
 ghost use Rattle.sweep.specs.Finish.{finish_of, number_of};
 
@@ -13,7 +11,7 @@ use criterion::Summary;
 use evaluate::Values;
 use local::Solved;
 use refusal::Refusal;
-use setup::{GwrBandwidth, Setup};
+use setup::{GwrBandwidth, Problem, Setup};
 
 // How far a sweep has come: the location that it is at, trace of the hat matrix and sum of squared residuals before it.
 #[derive(Clone, Copy)]
@@ -100,23 +98,19 @@ pub fn write_row(out: &mut [f64], rows: bool, u: Setup, i: usize, outcome: Resul
 
 // 000's `fit_all_locations`: locations 0 to n - 1 in order, up to the first refusal, with their rows or, in a trial, without.
 pub fn fit_all_locations(
-    coords: &[f64],
-    x: &[f64],
-    y: &[f64],
-    trust: &[f64],
-    u: Setup,
+    problem: &Problem<'_>,
     b: GwrBandwidth,
     rows: bool,
     out: &mut [f64],
 ) -> Swept
-    requires shaped { Shaped u (trusted_data coords.now x.now y.now trust.now) }
     requires usable { Usable b }
-    requires room { RoomFor rows u (length out.old) }
-    ensures { (result, out.new) ≡ fit_all_locations rows u (trusted_data coords.now x.now y.now trust.now) b out.old }
+    requires room { RoomFor rows problem.now.setup (length out.old) }
+    ensures { (result, out.new) ≡ fit_all_locations rows problem.now.setup problem.now.columns b out.old }
 {
+    let u = problem.setup();
     let mut sweep = Sweep::new();
     for i in 0..u.n {
-        let outcome = local::solve_location(coords, x, y, trust, u, b, i);
+        let outcome = local::solve_location(problem, b, i);
         write_row(&mut *out, rows, u, i, outcome);
         match outcome {
             Ok(solved) => sweep = sweep.add(solved.values).next(),

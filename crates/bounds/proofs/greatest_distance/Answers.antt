@@ -13,7 +13,7 @@ loop-there-init c = first_pair _ _ _ c.requires.0 c.as_chunks.ensures.front c.as
 
 pub loop-there-preserved : goal.loop-there-preserved
 loop-there-preserved c =
-    next_pair _ _ _ c.requires.0 c.as_chunks.ensures.front c.as_chunks.ensures.front_len _ _ _ c.loop-there-test.true c.distance-d.ensures c.max-most.ensures c.loop-there.invariant
+    next_pair _ _ _ c.requires.0 c.as_chunks.ensures.front c.as_chunks.ensures.front_len _ _ _ c.loop-there-test.true c.distance.ensures c.max-most.ensures c.loop-there.invariant
 
 pub loop-i-preserved : goal.loop-i-preserved
 loop-i-preserved c =
