@@ -70,9 +70,10 @@ fn sum_squares(
         total: 0.0,
         residual: 0.0,
     };
+    let u = problem.setup();
     let y = problem.responses();
     // An index: chunks of no predictors cannot be zipped.
-    for j in 0..y.len() {
+    for j in 0..u.n {
         if w[j] == 0.0 {
             continue;
         }
@@ -102,8 +103,8 @@ fn local_r_squared(
 ) -> f64
     ensures { result ≡ local_r_squared problem.now.setup problem.now.columns w.now beta sum }
 {
-    let y = problem.responses();
-    let mean = estimate::inner_product(0.0, &w[..y.len()], y) / sum;
+    let n = problem.setup().n;
+    let mean = estimate::inner_product(0.0, &w[..n], problem.responses()) / sum;
     explained_share(sum_squares(problem, w, beta, mean))
 }
 

@@ -1,5 +1,5 @@
 // What is lent for a job: the columns of its data, and these beside options and sizes once their lengths are known to fit.
-ghost use Rattle.std.specs.Prelude.{◌≡◌, ◌<◌};
+ghost use Rattle.std.specs.Prelude.{◌≡◌, ◌*◌, ◌≤◌, ◌<◌, length};
 ghost use Rattle.kernel.specs.Place.{place_at};
 ghost use Rattle.setup.specs.Data.Trusts.{each};
 ghost use Rattle.setup.specs.Shape.{Shaped};
@@ -77,7 +77,9 @@ impl<'a> Problem<'a> {
     }
 
     pub fn coords(&self) -> &'a [f64]
-        ensures { result.now ≡ self.now.columns.coords }
+        ensures coords { result.now ≡ self.now.columns.coords }
+        ensures two_each { length result.now ≡ 2 * self.now.setup.n }
+        ensures few { self.now.setup.n ≤ 512 }
     {
         let columns = &self.columns;
         columns.coords
@@ -98,7 +100,8 @@ impl<'a> Problem<'a> {
     }
 
     pub fn trusts(&self) -> &'a [f64]
-        ensures { each result.now ≡ self.now.columns.trusts }
+        ensures trusts { each result.now ≡ self.now.columns.trusts }
+        ensures one_each { length result.now ≡ self.now.setup.n }
     {
         let columns = &self.columns;
         columns.trusts

@@ -6,5 +6,6 @@ use Rattle.evaluate.proofs.values_at.Goals as goal
 pub returns : goal.returns
 unfolding values_at
 returns c =
-    let f = fitted_at _ _ _ _ c.requires.shaped.rows c.requires.is_location c.predictors_of.ensures _ c.fitted-predicted.ensures in
-    rw (c.hat_diagonal.ensures, c.local_r_squared.ensures, f, c.design_row-row.ensures)
+    let q = c.args.problem.now in
+    let f = fitted_at q.columns.predictors q.setup.n q.setup.p c.args.i c.setup-p.ensures.shaped.rows c.requires c.predictors_of.ensures.own _ c.fitted-predicted.ensures in
+    rw (c.hat_diagonal.ensures, c.local_r_squared.ensures, f, c.design_row-row.ensures, c.responses-y.ensures, c.setup-p.ensures.setup)
