@@ -1,9 +1,9 @@
 -- A count that is given is the chosen one, and a resolved one is from 1 to 512. Assumes nothing.
-use mathlib.Core.Path.{◌≡◌, sym, ◌∙◌, ap}
-use Prim.Native.Nat.{ℕ, ◌+◌, ◌≤◌, max}
+use mathlib.Core.Path.{◌≡◌, sym}
+use Prim.Native.Nat.{ℕ, ◌≤◌}
 use native.Mathlib.Omega.{arith}
-use borrow.Author.Tests.{eq-eqb, ne_eqb}
-use Rattle.counts.specs.Count.{ceil_root, chosen_count, resolve_count}
+use borrow.Author.Tests.{ne_eqb}
+use Rattle.counts.specs.Count.{chosen_count, resolve_count}
 
 module _ (k n p : ℕ) where
   pub chosen_given : (k ≡ 0 → ⊥) → k ≡ chosen_count k n p

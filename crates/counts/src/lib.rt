@@ -19,11 +19,7 @@ fn chosen_count(k: usize, n: usize, p: usize) -> usize
     requires { p ≤ 7 }
     ensures { result ≡ chosen_count k n p }
 {
-    if k == 0 {
-        (p + 3).max(ceil_root(n))
-    } else {
-        k
-    }
+    if k == 0 { (p + 3).max(ceil_root(n)) } else { k }
 }
 
 // An unsearched count: the chosen one, capped at n - 1 and raised to at least 1.
