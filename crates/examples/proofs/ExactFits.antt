@@ -107,16 +107,15 @@ module _ (f : Family) where
     same_solution : table m solution ≡ table m beta
 
   exactly : Computed → ExactFit u d f.w f.sum coefficients
-  exactly c =
-      (
-        c.same_fit,
-        record {
-          matrix = cells m gram matrix c.same_matrix;
-          right = each m moment right c.same_right;
-          inverse = cells m product identity c.same_product;
-          coefficients = each m solution beta c.same_solution;
-        },
-      )
+  exactly c = (
+    c.same_fit,
+    record {
+      matrix = cells m gram matrix c.same_matrix;
+      right = each m moment right c.same_right;
+      inverse = cells m product identity c.same_product;
+      coefficients = each m solution beta c.same_solution;
+    },
+  )
 
   solved_by : Computed → ExactlySolved f
   solved_by c =

@@ -7,6 +7,6 @@ use Rattle.evaluate.proofs.local_r_squared.Goals as goal
 
 pub returns : goal.returns
 unfolding local_r_squared
-returns c = 
+returns c =
     let s = c.args in
     c.explained_share.ensures ∙ rw (c.sum_squares.ensures, c.inner_product.ensures ∙ weighted_is s.w.now s.y.now s.u.n (search rules) c.requires.answers)
