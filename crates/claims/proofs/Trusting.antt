@@ -8,8 +8,8 @@ use native.Mathlib.Omega.{arith}
 use lib.ListN.{length, replicate, length-replicate}
 use lib.Ieee.{Float, le, of_bits}
 use borrow.Author.Tests.{not-false}
-use Rattle.std.specs.Prelude.{Ok, Err}
-use Rattle.claims.specs.Words.{one64, all_of, all_in_unit, Refusal, judge, ruled, NoneOf, Check, GwrBandwidth, GwrOptions, Setup, Data, data_of, trusting, setup_of, lengths_fit, value_tests, input_tests, fit_tests, Plan, Settled, Sought, Acceptance, plan_of, accepted, accept_of, bandwidth_at, Solved, solve_local, solve_location, Swept, after_solve, row_after, visit_at, visit, fit_all_locations, Trial, trial_from, trial_of, Search, Optimum, scored_of, round_with, optimum_of, Bracket, start_of, aim_of, round_of, opened_of, golden_of, optimize_bandwidth, final_of, sought_of, planned, answered, gwr_fit, Job, step_job, step_out, step_of, is_over, is_final, after_outcome, run, begun_with, begin_of, lent_tests, turn_tests, refused_turn, ran_of, run_of, turn_of, fit_from, fitted}
+use Rattle.std.specs.Prelude.{Ok, Err, Result}
+use Rattle.claims.specs.Words.{one64, all_of, all_in_unit, Refusal, judge, ruled, NoneOf, Check, GwrBandwidth, GwrOptions, Setup, Data, data_of, trusting, setup_of, lengths_fit, value_tests, input_tests, fit_tests, Plan, Settled, Sought, Acceptance, plan_of, accepted, accept_of, bandwidth_at, Solved, solve_local, solve_location, Swept, after_solve, row_after, visit_at, visit, fit_all_locations, Trial, trial_from, trial_of, Search, Optimum, scored_of, round_with, optimum_of, Bracket, start_of, aim_of, round_of, opened_of, golden_of, optimize_bandwidth, final_of, sought_of, planned, answered, gwr_fit, Job, step_job, step_out, step_of, is_over, is_final, after_outcome, run, begun_with, begin_of, lent_tests, turn_tests, refused_turn, ran_of, run_of, turn_of, fit_from, fitted, Coefficients, Values, solved_by}
 use Rattle.claims.proofs.Laws.{related, none_append, none_head, ones_weights, fit_blind, values_blind, input_accepted, step_setup, lengths_fit_means}
 
 -- ---- a fit sees its data through its solves
@@ -67,6 +67,12 @@ unfolding all_of le of_bits
 all_ones zero = refl
 all_ones (suc n) = all_ones n
 
+-- the values alone tell what is solved apart
+solved_alike : (f : Result Coefficients Refusal) (v w : Coefficients → Values) → ((c : Coefficients) → v c ≡ w c) → solved_by f v ≡ solved_by f w
+unfolding solved_by
+solved_alike (Ok c) v w h = ap (λ (z : Values). solved_by (Ok c) (λ _. z)) (h c)
+solved_alike (Err r) v w h = refl
+
 module _ (coords x y : List Float) where
   abbrev d : Data
   d = trusting coords x y
@@ -77,7 +83,8 @@ module _ (coords x y : List Float) where
   -- each solve: the weights are the same, and the rest sees no trust
   pub solve_trusting : (u : Setup) → length y ≡ u.n → (b : GwrBandwidth) (i : ℕ) → solve_location u d b i ≡ solve_location u e b i
   unfolding solve_location solve_local
-  solve_trusting u many b i = rw (ones_weights u coords x y many, fit_blind, values_blind)
+  solve_trusting u many b i =
+      rw (ones_weights u coords x y many, fit_blind) (solved_alike _ _ _ (λ c. values_blind u coords x y (replicate (length y) one64) _ i c.inverse c.beta _))
 
   pub score_trusting : (u : Setup) → length y ≡ u.n → (point : Float) → trial_of u d point ≡ trial_of u e point
   score_trusting u many point = trial_alike u d e (solve_trusting u many) point

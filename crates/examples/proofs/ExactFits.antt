@@ -24,7 +24,7 @@ use Rattle.refusal.specs.declared.Refusal.{Refusal}
 use Rattle.estimate.specs.declared.Coefficients.{Coefficients}
 use Rattle.estimate.specs.Inverse.{invert_matrix, inverse_cell, inverse_step, inverse_times, all_step, all_below, inverse_row_finite, inverse_finite}
 use Rattle.estimate.specs.Estimate.{coefficients_finite, coefficient_step, coefficients_of, from_inverse, eliminated_of, from_eliminated, coefficients_under, fit_coefficients}
-use Rattle.estimate.specs.NormalEquations.{units_of_one, sum_below, cell_at, design_at, moment_at, Exact, Solves, ExactFit}
+use Rattle.estimate.specs.NormalEquations.{units_of_one, sum_below, cell_at, design_at, moment_at, ExactFit}
 use Rattle.estimate.proofs.NormalEquations.{matrix_at, inverse_at, normal_equations}
 use Rattle.examples.specs.ExactFits.{Family, family_setup, family_data, ExactlySolved, mean_of_two, line_of_three, plane_of_four}
 
@@ -107,16 +107,15 @@ module _ (f : Family) where
     same_solution : table m solution ≡ table m beta
 
   exactly : Computed → ExactFit u d f.w f.sum coefficients
-  exactly c =
-      (
-        c.same_fit,
-        record {
-          matrix = cells m gram matrix c.same_matrix;
-          right = each m moment right c.same_right;
-          inverse = cells m product identity c.same_product;
-          coefficients = each m solution beta c.same_solution;
-        },
-      )
+  exactly c = (
+    c.same_fit,
+    record {
+      matrix = cells m gram matrix c.same_matrix;
+      right = each m moment right c.same_right;
+      inverse = cells m product identity c.same_product;
+      coefficients = each m solution beta c.same_solution;
+    },
+  )
 
   solved_by : Computed → ExactlySolved f
   solved_by c =
