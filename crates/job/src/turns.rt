@@ -15,7 +15,14 @@ use stepping::{Job, Stage};
 
 // Refusal 21, then 8, 9, 10, 26 and 13, of what a turn is lent. Which of 8 to 26 is met is asked only where one is: the data were good
 // when the job began.
-fn check_lent(coords: &[f64], x: &[f64], y: &[f64], trust: &[f64], u: Setup, out: usize) -> Result<(), Refusal>
+fn check_lent(
+    coords: &[f64],
+    x: &[f64],
+    y: &[f64],
+    trust: &[f64],
+    u: Setup,
+    out: usize,
+) -> Result<(), Refusal>
     requires { Sized u }
     ensures { result ≡ judge (lent_tests u (trusted_data coords.now x.now y.now trust.now) out) }
 {
@@ -29,7 +36,14 @@ fn check_lent(coords: &[f64], x: &[f64], y: &[f64], trust: &[f64], u: Setup, out
 }
 
 // The refusals of a turn in order.
-fn check_turn(j: Job, coords: &[f64], x: &[f64], y: &[f64], trust: &[f64], out: usize) -> Result<(), Refusal>
+fn check_turn(
+    j: Job,
+    coords: &[f64],
+    x: &[f64],
+    y: &[f64],
+    trust: &[f64],
+    out: usize,
+) -> Result<(), Refusal>
     ensures { result ≡ judge (turn_tests j (trusted_data coords.now x.now y.now trust.now) out) }
 {
     if !is_fit(j) {
