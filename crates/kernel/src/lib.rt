@@ -13,7 +13,6 @@ ghost use Rattle.kernel.specs.Weight.{squares_of, distance_of, weight_of, weighe
 mod reaching;
 
 pub use reaching::{guess_distance, settle_distance};
-
 use refusal::Refusal;
 
 // 000's three spatial kernels.
@@ -108,9 +107,5 @@ pub fn distance(ax: f64, ay: f64, bx: f64, by: f64) -> f64
 pub fn weigh_distance(k: GwrKernel, d: f64, b: f64) -> Option<f64>
     ensures { result ≡ weighed k d b }
 {
-    if d >= 0.0 {
-        Some(k.weight(d, b))
-    } else {
-        None
-    }
+    if d >= 0.0 { Some(k.weight(d, b)) } else { None }
 }
