@@ -14,7 +14,7 @@ use Rattle.std.specs.Prelude.{Ok, Err}
 use Rattle.real.specs.Reals.{zero64}
 use Rattle.wire.proofs.Decoding.{length_reals}
 use Rattle.refusal.specs.declared.Refusal.{Refusal}
-use Rattle.refusal.specs.declared.Refusal.TheVariants.{TooFewObservations, OutputTooShort, UnknownNumber}
+use Rattle.refusal.specs.declared.Refusal.TheVariants.{TooFewObservations, OutputTooShort}
 use Rattle.setup.specs.declared.GwrOptions.{GwrOptions}
 use Rattle.setup.specs.Data.{Data, trust_count}
 use Rattle.setup.specs.Shape.{setup_of}

@@ -25,7 +25,6 @@ pub handed_on : {A : Type 0} {r : Result A Refusal} {q : Refusal} → IsErr r ×
 handed_on {r = Ok v} h = absurd h.1
 handed_on {r = Err z} h = ap Err h.1
 
-
 -- a list that a function reads for the caller
 pub read : {a b c : Check} → a ≡ b → a ≡ c → b ≡ c
 read e f = sym e ∙ f

@@ -9,7 +9,7 @@ use lib.ListN.{length}
 use Rattle.std.specs.Prelude.{Result, Ok, Err}
 use Rattle.wire.specs.Wire.{load_of}
 use Rattle.refusal.specs.declared.Refusal.{Refusal}
-use Rattle.refusal.specs.declared.Refusal.TheVariants.{NoCoordinates, TooManyObservations, TooManyPredictors, UnknownNumber}
+use Rattle.refusal.specs.declared.Refusal.TheVariants.{NoCoordinates, TooManyObservations, TooManyPredictors}
 use Rattle.setup.specs.declared.GwrOptions.{GwrOptions}
 use Rattle.checks.specs.Judge.{Check, judge, ruled, FirstOf, NoneOf}
 use Rattle.checks.proofs.Judge.{ruled_refused, ruled_pass, none_head}

@@ -14,7 +14,6 @@ mod place;
 mod reaching;
 
 pub use place::Place;
-
 use refusal::Refusal;
 
 // 000's three spatial kernels.
@@ -93,9 +92,5 @@ fn bisquare(d: f64, b: f64) -> f64
 pub fn weigh_distance(k: GwrKernel, d: f64, b: f64) -> Option<f64>
     ensures { result ≡ weighed k d b }
 {
-    if d >= 0.0 {
-        Some(k.weight(d, b))
-    } else {
-        None
-    }
+    if d >= 0.0 { Some(k.weight(d, b)) } else { None }
 }

@@ -8,7 +8,6 @@ use Rattle.setup.specs.declared.GwrBandwidth.{GwrBandwidth}
 use Rattle.setup.specs.declared.GwrBandwidth.TheVariants.{Fixed, AdaptiveKnn}
 use Rattle.setup.specs.declared.GwrOptions.{GwrOptions}
 use Rattle.setup.specs.Options.{unguarded, default_options}
-
 -- ---- kernels
 
 unfoldable pub use Rattle.kernel.specs.Numbers.{kernel_of}

@@ -11,7 +11,7 @@ use Rattle.real.specs.Reals.{zero64}
 use Rattle.wire.specs.Wire.{real_of, placed, bytes_of}
 use Rattle.refusal.specs.Numbers.{refusal_number}
 use Rattle.refusal.specs.declared.Refusal.{Refusal}
-use Rattle.refusal.specs.declared.Refusal.TheVariants.{OutputTooShort, CoordinateNotFinite, UnknownNumber}
+use Rattle.refusal.specs.declared.Refusal.TheVariants.{OutputTooShort, CoordinateNotFinite}
 use Rattle.kernel.specs.declared.GwrKernel.{GwrKernel}
 use Rattle.kernel.specs.Weight.{weight_of, weighed}
 use Rattle.checks.specs.Judge.{Check, judge, ruled, NoneOf, Decides, Means}

@@ -1,5 +1,5 @@
 -- `job::turns::check_lent`: 21, then the values, then the room.
-use mathlib.Core.Path.{◌≡◌, sym, ap, ◌∙◌}
+use mathlib.Core.Path.{sym, ap, ◌∙◌}
 use Prim.Native.Nat.{ℕ, ◌*◌}
 use Rattle.setup.specs.Data.{trusted_data}
 use Rattle.checks.specs.Judge.{NoneOf}
