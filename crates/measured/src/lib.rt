@@ -214,7 +214,13 @@ fn seen_of(fit: Result<Fit, Refusal>, reals: &mut [f64; 2], counts: &mut [u64; 2
 {
     match fit {
         Err(r) => r.number(),
-        Ok(fit) => tell(fit.finish.number(), fit.finish.summary, fit.rows, reals, counts),
+        Ok(fit) => tell(
+            fit.finish.number(),
+            fit.finish.summary,
+            fit.rows,
+            reals,
+            counts,
+        ),
     }
 }
 
