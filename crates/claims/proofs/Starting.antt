@@ -11,7 +11,7 @@ use Rattle.claims.specs.Words.{judge, GwrBandwidth, Fixed, AdaptiveKnn, GwrOptio
 use Rattle.claims.proofs.Laws.{Serves, accept_planned, Accepted, kind_at, Holds}
 use Rattle.plan.specs.declared.Plan.TheVariants as plan
 use Rattle.plan.specs.declared.Acceptance.TheVariants as acceptance
-use Rattle.std.specs.Prelude.{Result, Ok, Err}
+use Rattle.std.specs.Prelude.{Result, Ok}
 use Rattle.refusal.specs.declared.Refusal.{Refusal}
 
 -- ---- the bandwidth is of the options' kind
