@@ -88,7 +88,14 @@ fn kind_of(seed: u64, k: u32, spoils: bool, x: &[f64]) -> Kind
 }
 
 impl Kind {
-    // How many predictors are lent.
+    // How many coordinates, predictors, responses and trusts are lent.
+    fn coordinates(self, data: Sample<'_>) -> usize {
+        match self {
+            Kind::NoCoordinates => 0,
+            _ => data.coords.len(),
+        }
+    }
+
     fn predictors(self, data: Sample<'_>) -> usize {
         match self {
             Kind::OtherPredictors => {
@@ -99,6 +106,13 @@ impl Kind {
                 }
             }
             _ => data.x.len(),
+        }
+    }
+
+    fn responses(self, data: Sample<'_>) -> usize {
+        match self {
+            Kind::NoResponses => 0,
+            _ => data.y.len(),
         }
     }
 
@@ -114,7 +128,11 @@ impl Kind {
         (self != Kind::NoOutput) & (self != Kind::TrustNanNoOutput)
     }
 
-    // What the last trust is replaced with.
+    // What the last number of a slice is replaced with by turns of one kind, and the last trust.
+    fn bad(self, spoils: Kind, v: f64) -> Option<f64> {
+        (self == spoils).then_some(v)
+    }
+
     fn bad_trust(self) -> Option<f64> {
         match self {
             Kind::TrustAboveOne => Some(1.0000000000000002),
@@ -161,34 +179,16 @@ fn turn_of(kind: Kind, j: Job, data: Sample<'_>, out: &mut [f64], allowance: u32
     lend(
         data.coords,
         &mut coords,
-        (kind == Kind::BadCoordinate).then_some(f64::INFINITY),
+        kind.bad(Kind::BadCoordinate, f64::INFINITY),
     );
-    lend(
-        data.x,
-        &mut x,
-        (kind == Kind::BadPredictor).then_some(f64::NAN),
-    );
-    lend(
-        data.y,
-        &mut y,
-        (kind == Kind::BadResponse).then_some(f64::NAN),
-    );
+    lend(data.x, &mut x, kind.bad(Kind::BadPredictor, f64::NAN));
+    lend(data.y, &mut y, kind.bad(Kind::BadResponse, f64::NAN));
     lend(data.trust, &mut trust, kind.bad_trust());
-    let coords_end = if kind == Kind::NoCoordinates {
-        0
-    } else {
-        data.coords.len()
-    };
-    let y_end = if kind == Kind::NoResponses {
-        0
-    } else {
-        data.y.len()
-    };
     let out_end = if kind.lends_output() { out.len() } else { 0 };
     let lent = Sample {
-        coords: &coords[..coords_end.min(24)],
+        coords: &coords[..kind.coordinates(data).min(24)],
         x: &x[..kind.predictors(data).min(36)],
-        y: &y[..y_end.min(12)],
+        y: &y[..kind.responses(data).min(12)],
         trust: &trust[..kind.trusts(data).min(12)],
     };
     lent.turn(j, &mut out[..out_end], allowance)

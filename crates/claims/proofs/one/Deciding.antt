@@ -1,13 +1,12 @@
 -- The fit, beginning and the weight of a distance: which inputs are refused, and what is served.
 use Rattle.std.specs.Prelude.{Result, Err, IsOkAnd}
 use Rattle.gwr.specs.declared.Fit.{Fit}
-use mathlib.Core.Path.{◌≡◌, refl, ap, subst, subst⁻¹}
-use mathlib.Core.Bool.{false}
+use mathlib.Core.Path.{◌≡◌, ap, subst, subst⁻¹}
 use mathlib.Core.List.{List, []}
 use Prim.Native.Nat.{ℕ, ◌*◌, ◌≤◌}
 use lib.ListN.{length, replicate, length-replicate}
 use lib.Ieee.{Float}
-use Rattle.claims.specs.Words.{zero64, Refusal, FirstOf, NoneOf, Decides, GwrOptions, Setup, Data, setup_of, Plan, Acceptance, fit_tests, plan_of, accept_of, answered, gwr_fit, Job, start_job, begun_with, begin_of}
+use Rattle.claims.specs.Words.{zero64, Refusal, NoneOf, Decides, GwrOptions, Setup, Data, setup_of, Plan, Acceptance, fit_tests, plan_of, accept_of, answered, gwr_fit, Job, start_job, begun_with, begin_of}
 use Rattle.claims.proofs.Laws.{accept_decides, fit_means}
 use Rattle.std.specs.Prelude.{Ok, Err}
 use Rattle.claims.specs.Whole.{to_final, count_of}
