@@ -63,7 +63,7 @@ fn print_answer(
     }
 }
 
-// A job's name and its fit; `out` has just the room that the rows need, or less.
+// A job's name and its fit, with the parameters of `gwr_fit`; `out` has just the room that the rows need, or less.
 fn show(
     rt: &impl Print,
     name: &str,
