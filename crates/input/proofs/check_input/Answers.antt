@@ -8,13 +8,15 @@ use Rattle.input.proofs.check_input.Goals as goal
 pub returns-in_err-check_shape : goal.returns-in_err-check_shape
 unfolding input_tests
 returns-in_err-check_shape c =
-    handed_on c.from_residual.ensures ∙ first_refuses _ _ (sym c.check_shape.ensures ∙ c.in_err-check_shape.was)
+    rw (← c.columns.view_is) (handed_on c.from_residual.ensures ∙ first_refuses _ _ (sym c.check_shape.ensures ∙ c.in_err-check_shape.was))
 
 pub returns-in_err-check_values : goal.returns-in_err-check_values
 unfolding input_tests
 returns-in_err-check_values c =
-    handed_on c.from_residual-in_err-check_values.ensures
-    ∙ first_passes _ _ (sym c.check_shape.ensures ∙ c.in_ok-check_shape.was) (first_refuses _ _ (sym c.check_values.ensures ∙ c.in_err-check_values.was))
+    let values = rw (← c.columns.view_is) at c.check_values.ensures in
+    rw (← c.columns.view_is)
+    (handed_on c.from_residual-in_err-check_values.ensures
+    ∙ first_passes _ _ (sym c.check_shape.ensures ∙ c.in_ok-check_shape.was) (first_refuses _ _ (sym values ∙ c.in_err-check_values.was)))
 
 pub check_output-requires : goal.check_output-requires
 check_output-requires c =
@@ -23,4 +25,6 @@ check_output-requires c =
 pub returns : goal.returns
 unfolding input_tests
 returns c =
-    first_passes _ _ (sym c.check_shape.ensures ∙ c.in_ok-check_shape.was) (first_passes _ _ (sym c.check_values.ensures ∙ c.in_ok-check_values.was) c.check_output.ensures)
+    let values = rw (← c.columns.view_is) at c.check_values.ensures in
+    rw (← c.columns.view_is)
+    (first_passes _ _ (sym c.check_shape.ensures ∙ c.in_ok-check_shape.was) (first_passes _ _ (sym values ∙ c.in_ok-check_values.was) c.check_output.ensures))

@@ -1,5 +1,4 @@
 -- `input::lengths_fit` meets its contract: four equations of lengths, joined as the definition joins them.
-use mathlib.Core.Path.{refl}
 use native.Mathlib.Nat.{mul-le-mul}
 use native.Mathlib.Omega.{arith}
 use Rattle.input.specs.Checks.{lengths_fit}
@@ -10,4 +9,4 @@ overflow_mul-rest c = let s = c.requires in omega (arith, mul-le-mul s.few s.nar
 
 pub returns : goal.returns
 unfolding lengths_fit
-returns c = refl
+returns c = rw (← c.columns.view_is)
