@@ -37,7 +37,7 @@ pub fn score_of(ending: Result<f64, Refusal>) -> f64
 {
     match ending {
         Ok(aicc) if real::is_finite(aicc) => aicc,
-        _ => real::infinity(),
+        _ => f64::INFINITY,
     }
 }
 
@@ -60,7 +60,7 @@ fn criterion_of(criterion: GwrCriterion, nf: f64, sigma: f64, trace: f64) -> f64
 {
     let d = (nf - 2.0) - trace;
     if is_exhausted(criterion, d) {
-        return real::infinity();
+        return f64::INFINITY;
     }
     aicc_formula(nf, floored(sigma), trace, d)
 }
@@ -70,8 +70,8 @@ fn is_exhausted(criterion: GwrCriterion, d: f64) -> bool
     ensures { result ≡ exhausted criterion d }
 {
     match criterion {
-        GwrCriterion::Unguarded => real::abs(d) <= 2.220446049250313e-16,
-        GwrCriterion::Guarded => d <= 2.220446049250313e-16,
+        GwrCriterion::Unguarded => real::abs(d) <= f64::EPSILON,
+        GwrCriterion::Guarded => d <= f64::EPSILON,
     }
 }
 
@@ -80,7 +80,7 @@ fn floored(sigma: f64) -> f64
     ensures { result ≡ floored sigma }
 {
     if sigma <= 0.0 {
-        2.2250738585072014e-308
+        f64::MIN_POSITIVE
     } else {
         sigma
     }

@@ -6,15 +6,7 @@ ghost use Rattle.std.specs.Float.{binary64};
 ghost use Rattle.std.specs.Float.Ieee.{lt};
 ghost use Rattle.std.specs.Float.Ieee.Scale.{finite};
 ghost use Rattle.real.specs.Finite.{all_finite, in_unit, all_in_unit};
-ghost use Rattle.real.specs.Reals.{magnitude, greater, lesser, clamp_unit, clamp_count, round_whole, round_into, Into, zero64, inf64, from_count};
-
-// Plus infinity.
-#[tactic(auto, using(crate::proofs::Std::infinity_same))]
-pub fn infinity() -> f64
-    ensures { result ≡ inf64 }
-{
-    f64::INFINITY
-}
+ghost use Rattle.real.specs.Reals.{magnitude, greater, lesser, clamp_unit, clamp_count, round_whole, round_into, Into, zero64, from_count};
 
 // A count as a real: exact.
 pub fn from_count(n: usize) -> f64
@@ -30,13 +22,6 @@ pub fn is_finite(x: f64) -> bool
     ensures { result ≡ finite x }
 {
     x.is_finite()
-}
-
-// For crates that call it yet: Rust's `a & b`.
-pub fn both(a: bool, b: bool) -> bool
-    ensures { result ≡ (a && b) }
-{
-    a & b
 }
 
 // Whether four numbers are finite: the first less itself is zero or else NaN, and zero times another is zero only where that is finite.
