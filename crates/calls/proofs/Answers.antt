@@ -1,5 +1,5 @@
 -- The fit call's parts, one law for each arm of the code.
-use Rattle.std.specs.Prelude.{Result, Ok, Err, IfOk}
+use Rattle.std.specs.Prelude.{Result, Ok, IfOk}
 use mathlib.Core.Path.{◌≡◌, refl, sym, ap, subst, ◌∙◌}
 use mathlib.Core.Bool.{Bool, true, false, cond}
 use mathlib.Core.List.{List}
@@ -12,14 +12,14 @@ use lib.ListN.{length, take, replicate}
 use lib.Ieee.{Float}
 use Rattle.real.specs.Reals.{zero64, one64}
 use Rattle.wire.specs.Wire.{reals, real_bytes, placed}
+use Rattle.wire.proofs.Decoding.{length_reals}
 use Rattle.refusal.specs.declared.Refusal.{Refusal}
-use Rattle.refusal.specs.Numbers.{refusal_number}
 use Rattle.setup.specs.declared.GwrOptions.{GwrOptions}
-use Rattle.setup.specs.Data.{Data, trusted_data, trusting}
+use Rattle.setup.specs.Data.{Data, trusted_data}
 use Rattle.sweep.specs.Finish.{number_of}
 use Rattle.gwr.specs.declared.Fit.{Fit}
 use Rattle.gwr.specs.Fit.{gwr_fit, rows_of}
-use Rattle.calls.specs.Calls.{AfterCall, placed_rows, fitted_bytes, fit_parts, room_of, summary_bytes, Offered}
+use Rattle.calls.specs.Calls.{AfterCall, numbers_of, placed_rows, fitted_bytes, fit_parts, room_of, summary_bytes, Offered}
 use Rattle.gwr.proofs.Bounds.{Made, Fits, fits}
 
 pub triple : {n m : ℕ} {a b c d : List ℕ} → n ≡ m → a ≡ b → c ≡ d → ◌≡◌ {A = AfterCall} (n, (a, c)) (m, (b, d))
@@ -86,25 +86,19 @@ module _ (d : Data) (p : ℕ) (o : GwrOptions) (out : List Float) (z : Result Fi
     unfolding placed_rows
     fitted_is bytes' summary' number b s n = triple n b s ∙ sym (ap (λ (y : Result Fit Refusal). call (y, after)) made) ∙ ap call e
 
-  pub fitted_refused : (r : Refusal) (number : ℕ) → z ≡ Err r → number ≡ refusal_number r → ◌≡◌ {A = AfterCall} (number, (bytes, summary)) (call (gwr_fit d p o out))
-  fitted_refused r number refused n = triple n refl refl ∙ sym (ap (λ (y : Result Fit Refusal). call (y, after)) refused) ∙ ap call e
-
--- every trust set to 1
-pub trusting_is : (c' x' y' t : List Float) → t ≡ replicate (length y') one64 → (p : ℕ) (o : GwrOptions) (z : List Float) (out summary : List ℕ) (a : AfterCall)
-    → a ≡ fitted_bytes p (gwr_fit (trusted_data c' x' y' t) p o z) out summary → a ≡ fitted_bytes p (gwr_fit (trusting c' x' y') p o z) out summary
-trusting_is c' x' y' t e p o z out summary a h = h ∙ ap (λ (l : List Float). fitted_bytes p (gwr_fit (trusted_data c' x' y' l) p o z) out summary) e
-
 module _ (coords x y : List ℕ) (p : ℕ) (o : GwrOptions) (out summary : List ℕ) where
   abbrev n : ℕ
   n = length coords / 16
 
-  pub parts_is : (c' x' y' z : List Float) (room : ℕ) (a : AfterCall) → c' ≡ reals coords (2 * n) → x' ≡ reals x (n * p) → y' ≡ reals y n → z ≡ replicate room zero64
-      → room ≡ room_of n p (length out) (length summary) → a ≡ fitted_bytes p (gwr_fit (trusting c' x' y') p o z) out summary → a ≡ fit_parts coords x y p o out summary
+  abbrev at : Data → List Float → AfterCall
+  at d z = fitted_bytes p (gwr_fit d p o z) out summary
+
+  -- numbers decoded, every trust set to 1
+  numbers_are : (c' x' y' t : List Float) → c' ≡ reals coords (2 * n) → x' ≡ reals x (n * p) → y' ≡ reals y n → t ≡ replicate n one64 → trusted_data c' x' y' t ≡ numbers_of coords x y p
+  numbers_are c' x' y' t ec ex ey et = let one : t ≡ replicate (length (reals y n)) one64 = et ∙ sym (ap (λ (k : ℕ). replicate k one64) (length_reals y n)) in cc
+
+  pub parts_is : (c' x' y' t z : List Float) (room : ℕ) (a : AfterCall) → c' ≡ reals coords (2 * n) → x' ≡ reals x (n * p) → y' ≡ reals y n → t ≡ replicate n one64 → z ≡ replicate room zero64
+      → room ≡ room_of n p (length out) (length summary) → a ≡ at (trusted_data c' x' y' t) z → a ≡ fit_parts coords x y p o out summary
   unfolding fit_parts
-  parts_is c' x' y' z room a ec ex ey ez er h =
-      h
-      ∙ ap (λ (l : List Float). fitted_bytes p (gwr_fit (trusting l x' y') p o z) out summary) ec
-      ∙ ap (λ (l : List Float). fitted_bytes p (gwr_fit (trusting (reals coords (2 * n)) l y') p o z) out summary) ex
-      ∙ ap (λ (l : List Float). fitted_bytes p (gwr_fit (trusting (reals coords (2 * n)) (reals x (n * p)) l) p o z) out summary) ey
-      ∙ ap (λ (l : List Float). fitted_bytes p (gwr_fit (trusting (reals coords (2 * n)) (reals x (n * p)) (reals y n)) p o l) out summary) ez
-      ∙ ap (λ (k : ℕ). fitted_bytes p (gwr_fit (trusting (reals coords (2 * n)) (reals x (n * p)) (reals y n)) p o (replicate k zero64)) out summary) er
+  parts_is c' x' y' t z room a ec ex ey et ez er h =
+      h ∙ ap (λ (d : Data). at d z) (numbers_are c' x' y' t ec ex ey et) ∙ ap (at (numbers_of coords x y p)) (ez ∙ ap (λ (k : ℕ). replicate k zero64) er)

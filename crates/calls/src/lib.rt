@@ -6,12 +6,11 @@ ghost use Rattle.wire.specs.Wire.{real_bytes, placed};
 ghost use Rattle.calls.specs.Calls.{room_of, summary_bytes, fitted_bytes, fit_parts, fit_bytes, Offered};
 ghost use Rattle.request.specs.Answer.{answer_number};
 ghost use Rattle.request.specs.Lengths.{ByteLengths};
-ghost use Rattle.setup.specs.Data.{trusting};
 ghost use Rattle.gwr.specs.Fit.{gwr_fit};
 
 use criterion::Summary;
 use refusal::Refusal;
-use setup::GwrOptions;
+use setup::{Columns, GwrOptions};
 
 // How many numbers the fit may write: n rows, or none where output or summary has too few bytes.
 fn room_of(n: usize, p: usize, out: usize, summary: usize) -> usize
@@ -44,25 +43,19 @@ fn store_rows(rows: &[f64], count: usize, out: &mut [u8])
     wire::encode(&rows[..count], out);
 }
 
-// The fit of decoded numbers, every observation fully trusted, with `rows` as its output. Rows and summary go out as bytes, unless
-// the input was refused.
+// The fit of decoded numbers, with `rows` as its output. Rows and summary go out as bytes, unless the input was refused.
 fn fitted_bytes(
-    places: &[f64],
-    predictors: &[f64],
-    responses: &[f64],
+    columns: &Columns<'_>,
     p: usize,
     options: GwrOptions,
     rows: &mut [f64],
     out: &mut [u8],
     summary: &mut [u8],
 ) -> Result<(), Refusal>
-    requires few { length responses.now ≤ 512 }
-    requires offered { (p ≤ 7) × Offered (length rows.old) (length out.old) (length summary.old) }
-    ensures { (answer_number result, (out.new, summary.new)) ≡ fitted_bytes p (gwr_fit (trusting places.now predictors.now responses.now) p options rows.old) out.old summary.old }
+    requires { (p ≤ 7) × Offered (length rows.old) (length out.old) (length summary.old) }
+    ensures { (answer_number result, (out.new, summary.new)) ≡ fitted_bytes p (gwr_fit columns.now p options rows.old) out.old summary.old }
 {
-    let ones = [1.0; 512];
-    let trust = &ones[..responses.len()];
-    let fit = gwr::gwr_fit(places, predictors, responses, trust, p, options, &mut *rows)?;
+    let fit = gwr::gwr_fit(columns, p, options, &mut *rows)?;
     store_rows(&*rows, fit.rows * (p + 4), out);
     store_summary(summary, fit.finish.summary);
     match fit.finish.refusal {
@@ -71,7 +64,7 @@ fn fitted_bytes(
     }
 }
 
-// The fit of slices of the right lengths.
+// The fit of slices of the right lengths, every observation fully trusted.
 fn fit_parts(
     coords: &[u8],
     x: &[u8],
@@ -88,6 +81,7 @@ fn fit_parts(
     let mut places = [0.0; 1024];
     let mut predictors = [0.0; 3584];
     let mut responses = [0.0; 512];
+    let ones = [1.0; 512];
     let mut rows = [0.0; 5632];
     let places = &mut places[..2 * n];
     let predictors = &mut predictors[..n * p];
@@ -95,17 +89,14 @@ fn fit_parts(
     wire::decode(coords, &mut *places);
     wire::decode(x, &mut *predictors);
     wire::decode(y, &mut *responses);
+    let columns = Columns {
+        coords: &*places,
+        predictors: &*predictors,
+        responses: &*responses,
+        trusts: &ones[..n],
+    };
     let room = room_of(n, p, out.len(), summary.len());
-    fitted_bytes(
-        &*places,
-        &*predictors,
-        &*responses,
-        p,
-        options,
-        &mut rows[..room],
-        out,
-        summary,
-    )
+    fitted_bytes(&columns, p, options, &mut rows[..room], out, summary)
 }
 
 // The fit call: coordinates, predictors and responses as bytes, rows and summary to the bytes lent.
