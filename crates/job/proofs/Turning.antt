@@ -118,26 +118,26 @@ pub record Reached (d : Data) (allowance : ℕ) (j₀ : Job) (out₀ : List Floa
 
 module _ (d : Data) {allowance : ℕ} {j₀ : Job} {out₀ : List Float} where
   -- before the first step
-  pub reached_none : Sound 0 j₀ → Reached d allowance j₀ out₀ allowance 0 j₀ out₀
-  reached_none s = record { running = running_none; holds = record { setup = refl; held = sound_held j₀ s; length_is = refl } }
+  pub reached_none : {left : ℕ} → left ≡ allowance → Sound 0 j₀ → Reached d allowance j₀ out₀ left 0 j₀ out₀
+  reached_none e s = subst⁻¹ (λ (n : ℕ). Reached d allowance j₀ out₀ n 0 j₀ out₀) e record { running = running_none; holds = record { setup = refl; held = sound_held j₀ s; length_is = refl } }
 
   module _ {left made : ℕ} {j : Job} {out : List Float} (r : Reached d allowance j₀ out₀ left made j out) where
     pub reached_usable : Usable j.bandwidth
     reached_usable = sound_usable r.holds.held
 
     -- what a step of it asks
-    pub reached_ready : is_ended j.stage ≡ false → Shaped j₀.setup d → j₀.setup.n * (j₀.setup.p + 4) ≤ length out₀
-        → Sound 0 j × (Shaped j.setup d × (j.setup.n * (j.setup.p + 4) ≤ length out))
-    reached_ready live shape room =
+    pub reached_ready : is_ended j.stage ≡ false → {u : Setup} → u ≡ j₀.setup → j₀.setup.n * (j₀.setup.p + 4) ≤ length out₀
+        → Sound 0 j × ((u ≡ j.setup) × (j.setup.n * (j.setup.p + 4) ≤ length out))
+    reached_ready live same room =
         let e = r.holds.setup in (
           held_live j live r.holds.held,
-          (subst⁻¹ (λ (u : Setup). Shaped u d) e shape, subst⁻¹ (λ (u : Setup). u.n * (u.p + 4) ≤ length out) e (omega (arith, room, r.holds.length_is))),
+          (same ∙ sym e, subst⁻¹ (λ (u : Setup). u.n * (u.p + 4) ≤ length out) e (omega (arith, room, r.holds.length_is))),
         )
 
-    pub reached_more : (k : Job) (after : List Float) → j₀.setup.n * (j₀.setup.p + 4) ≤ length out₀ → 0 < left → is_ended j.stage ≡ false
-        → ◌≡◌ {A = Job × List Float} (k, after) (step_of d (j, out)) → Reached d allowance j₀ out₀ (left - 1) (made + 1) k after
-    reached_more k after room some live h =
-        record {
+    pub reached_more : {rest : ℕ} (k : Job) (after : List Float) → rest ≡ left - 1 → j₀.setup.n * (j₀.setup.p + 4) ≤ length out₀ → 0 < left → is_ended j.stage ≡ false
+        → ◌≡◌ {A = Job × List Float} (k, after) (step_of d (j, out)) → Reached d allowance j₀ out₀ rest (made + 1) k after
+    reached_more k after fewer room some live h =
+        subst⁻¹ (λ (n : ℕ). Reached d allowance j₀ out₀ n (made + 1) k after) fewer record {
           running = running_more r.running (k, after) some live h;
           holds = subst⁻¹ (Holds j₀.setup (length out₀)) h (holds_step d j₀.setup (length out₀) (j, out) room r.holds live);
         }

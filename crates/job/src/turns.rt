@@ -76,17 +76,13 @@ fn run(
     ensures { (result, out.new) ≡ run_of j problem.now.columns out.old allowance }
 {
     let mut k = j;
-    let mut left = allowance;
-    let mut made = 0u32;
-    while left > 0 {
+    for made in 0..allowance {
         if k.stage.is_ended() {
             return tell(k, made);
         }
         k = k.step(problem, &mut *out);
-        made = made + 1;
-        left = left - 1;
     }
-    tell(k, made)
+    tell(k, allowance)
 }
 
 // A turn: refused, or so many steps as the allowance and the end allow.

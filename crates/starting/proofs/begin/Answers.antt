@@ -1,15 +1,22 @@
 -- `starting::begin`: by what is said of the input; an accepted one has sizes in range.
 use mathlib.Core.Path.{refl, sym, ap, ◌∙◌}
 use Rattle.std.specs.Prelude.{Ok}
+use Rattle.checks.proofs.Tests.{handed_on}
+use Rattle.setup.specs.Data.{trusted_data}
 use Rattle.plan.proofs.Planned.{accept_planned}
 use Rattle.starting.proofs.Begins.{begin_is}
 use Rattle.starting.proofs.begin.Goals as goal
 
 pub start-requires : goal.start-requires
-start-requires c = (accept_planned _ _ _ _ (sym c.accept.ensures ∙ c.in-Ok.is)).accepted.shaped.sized
+start-requires c =
+    let accepted = rw (← c.columns.view_is) at c.accept.ensures in
+    (accept_planned (trusted_data _ _ _ _) _ _ _ (sym accepted ∙ c.in_ok-plan.was)).accepted.shaped.sized
 
-pub returns-in-Err : goal.returns-in-Err
-returns-in-Err c = begin_is _ _ _ _ _ _ (sym c.accept.ensures ∙ c.in-Err.is) refl
+pub returns-in_err-plan : goal.returns-in_err-plan
+returns-in_err-plan c =
+    handed_on c.from_residual.ensures ∙ begin_is _ _ _ _ _ _ (sym c.accept.ensures ∙ c.in_err-plan.was) refl
 
-pub returns-in-Ok : goal.returns-in-Ok
-returns-in-Ok c = begin_is _ _ _ _ _ _ (sym c.accept.ensures ∙ c.in-Ok.is) (ap Ok c.start.ensures)
+pub returns : goal.returns
+returns c =
+    let accepted = rw (← c.columns.view_is) at c.accept.ensures in
+    rw (← c.columns.view_is) (begin_is _ _ _ _ _ _ (sym accepted ∙ c.in_ok-plan.was) (ap Ok c.start.ensures))

@@ -1,7 +1,6 @@
 -- `job::turns::check_lent`: 21, then the values, then the room.
 use mathlib.Core.Path.{sym, ap, ◌∙◌}
 use Prim.Native.Nat.{ℕ, ◌*◌}
-use Rattle.setup.specs.Data.{trusted_data}
 use Rattle.checks.specs.Judge.{NoneOf}
 use Rattle.checks.proofs.Tests.{handed_on}
 use Rattle.input.specs.Checks.{value_tests}
@@ -27,8 +26,8 @@ returns-in_err-check_values c =
 
 pub returns : goal.returns
 returns c =
-    let passed : NoneOf (value_tests (trusted_data c.args.coords.now c.args.x.now c.args.y.now c.args.trust.now)) = elim c.if-not-values_good.branch [
+    let passed : NoneOf (value_tests c.args.columns.now) = elim c.if-not-values_good.branch [
       | then-not-values_good+in_ok-check_values w ↦ sym w.check_values.ensures ∙ w.in_ok-check_values.was
-      | else-not-values_good w ↦ values_pass _ _ _ _ (sym c.values_good.ensures ∙ w.if-not-values_good.false)
+      | else-not-values_good w ↦ values_pass _ (sym c.values_good.ensures ∙ w.if-not-values_good.false)
     ] in
     lent_room _ _ _ _ (sym c.lengths_fit.ensures ∙ c.if-not-lengths_fit.false) passed c.check_room.ensures
