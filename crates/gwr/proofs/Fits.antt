@@ -1,10 +1,10 @@
 -- The arms of the fit's code.
 use Rattle.std.specs.Prelude.{Result}
 use Rattle.refusal.specs.declared.Refusal.{Refusal}
-use mathlib.Core.Path.{◌≡◌, sym, ap, ◌∙◌}
+use mathlib.Core.Path.{◌≡◌, sym, ap, subst⁻¹, ◌∙◌}
 use mathlib.Core.Bool.{true}
 use mathlib.Core.List.{List}
-use Prim.Native.Nat.{ℕ, ◌+◌, ◌≤◌}
+use Prim.Native.Nat.{ℕ, ◌+◌, ◌/◌, ◌≤◌}
 use native.Mathlib.Omega.{arith}
 use lib.ListN.{length}
 use lib.Ieee.{Float}
@@ -13,12 +13,13 @@ use Rattle.setup.specs.declared.GwrBandwidth.{GwrBandwidth}
 use Rattle.setup.specs.declared.GwrOptions.{GwrOptions}
 use Rattle.setup.specs.declared.Setup.{Setup}
 use Rattle.setup.specs.Data.{Data}
-use Rattle.setup.specs.Shape.{setup_of}
+use Rattle.setup.specs.Problem.{Posed}
+use Rattle.setup.specs.Shape.{setup_of, Shaped}
 use Rattle.plan.specs.declared.Plan.{Plan}
 use Rattle.plan.specs.Plan.{Acceptance, accept_of}
 use Rattle.sweep.specs.declared.Finish.{Finish}
 use Rattle.sweep.specs.declared.Swept.{Swept}
-use Rattle.sweep.specs.Sweep.{fit_all_locations, solves_of, ending_of}
+use Rattle.sweep.specs.Sweep.{RoomFor, fit_all_locations, solves_of, ending_of}
 use Rattle.sweep.specs.Finish.{finish_of}
 use Rattle.sweep.proofs.Sweeps.{made_few}
 use Rattle.search.specs.declared.Optimum.{Optimum}
@@ -47,11 +48,27 @@ module _ (u : Setup) (d : Data) where
   unfolding sought_of
   sought_is lo hi m out r hm hr = hr ∙ ap (λ (t : Optimum). final_of u d t.bandwidth t.solves out) hm
 
+-- a problem whose n was read from coordinates that are those of the data
+module _ (d : Data) (p : ℕ) (o : GwrOptions) (v : Data) (seen : v ≡ d) where
+  abbrev read : Data → Setup
+  read lent = record { options = o; n = length lent.coords / 2; p = p }
+
+  pub shaped_is : Shaped (setup_of d p o) d → Shaped (read v) d
+  shaped_is h = subst⁻¹ (λ (l : Data). Shaped (read l) d) seen h
+
+  pub posed_is : (w : Posed) → w ≡ record { setup = read v; columns = d } → w ≡ record { setup = setup_of d p o; columns = d }
+  posed_is w h = h ∙ ap (λ (l : Data). record { setup = read l; columns = d }) seen
+
+  pub room_is : (w : Posed) → w ≡ record { setup = read v; columns = d } → (out : ℕ) → RoomFor true (setup_of d p o) out → RoomFor true w.setup out
+  room_is w h out room = subst⁻¹ (λ (q : Posed). RoomFor true q.setup out) (posed_is w h) room
+
 -- the fit, by what is said of its input, and by its plan
 module _ (d : Data) (p : ℕ) (o : GwrOptions) (out : List Float) where
   pub fit_is : (a : Acceptance) (r : Result Fit Refusal × List Float) → accept_of d p o (length out) ≡ a → r ≡ answered a (setup_of d p o) d out → r ≡ gwr_fit d p o out
   unfolding gwr_fit
   fit_is a r e h = h ∙ sym (ap (λ (z : Acceptance). answered z (setup_of d p o) d out) e)
 
-  pub planned_is : (q s : Plan) (r : Fit × List Float) → accept_of d p o (length out) ≡ Ok q → q ≡ s → r ≡ planned s (setup_of d p o) d out → fitted r ≡ gwr_fit d p o out
-  planned_is q s r e f h = fit_is (Ok q) (fitted r) e (ap fitted (h ∙ sym (ap (λ (z : Plan). planned z (setup_of d p o) d out) f)))
+  pub planned_is : (q s : Plan) (w : Posed) (r : Fit × List Float) → accept_of d p o (length out) ≡ Ok q → q ≡ s → w ≡ record { setup = setup_of d p o; columns = d }
+      → r ≡ planned s w.setup w.columns out → fitted r ≡ gwr_fit d p o out
+  planned_is q s w r e f g h =
+      fit_is (Ok q) (fitted r) e (ap fitted (h ∙ ap (λ (v : Posed). planned s v.setup v.columns out) g ∙ sym (ap (λ (z : Plan). planned z (setup_of d p o) d out) f)))

@@ -19,30 +19,21 @@ pub struct Fit {
 }
 
 // The final fit at a bandwidth, after `before` solves.
-fn final_of(
-    problem: &Problem<'_>,
-    b: GwrBandwidth,
-    before: u64,
-    out: &mut [f64],
-) -> Fit
+fn final_of(problem: &Problem<'_>, b: GwrBandwidth, before: u64, out: &mut [f64]) -> Fit
     requires usable { Usable b }
     requires room { RoomFor true problem.now.setup (length out.old) × (before ≤ 512 * 102) }
     ensures { (result, out.new) ≡ final_of problem.now.setup problem.now.columns b before out.old }
 {
+    let u = problem.setup();
     let s = sweep::fit_all_locations(problem, b, true, out);
     Fit {
-        finish: sweep::finish_of(s.ending(problem.setup()), b, before + s.solves()),
+        finish: sweep::finish_of(s.ending(u), b, before + s.solves()),
         rows: s.sweep.location,
     }
 }
 
 // The search from lo to hi, and the final fit at the bandwidth that it found.
-fn sought_of(
-    problem: &Problem<'_>,
-    lo: f64,
-    hi: f64,
-    out: &mut [f64],
-) -> Fit
+fn sought_of(problem: &Problem<'_>, lo: f64, hi: f64, out: &mut [f64]) -> Fit
     requires room { RoomFor true problem.now.setup (length out.old) }
     ensures { (result, out.new) ≡ sought_of problem.now.setup problem.now.columns lo hi out.old }
 {

@@ -40,16 +40,13 @@ fn slot_of(tried: &[Option<Tried>; 102], key: u64) -> usize
 }
 
 // The trial at a point of the search: what an earlier trial at the same bandwidth left, or a sweep, which is remembered.
-pub fn trial_of(
-    problem: &Problem<'_>,
-    point: f64,
-    tried: &mut [Option<Tried>; 102],
-) -> Trial
+pub fn trial_of(problem: &Problem<'_>, point: f64, tried: &mut [Option<Tried>; 102]) -> Trial
     requires remembered { Remembered problem.now.setup problem.now.columns tried.old }
     ensures value { result ≡ trial_of problem.now.setup problem.now.columns point }
     ensures still_remembered { Remembered problem.now.setup problem.now.columns tried.new }
 {
-    let b = bounds::bandwidth_at(problem.setup(), point);
+    let u = problem.setup();
+    let b = bounds::bandwidth_at(u, point);
     let key = key_of(b);
     let j = slot_of(&*tried, key);
     if let Some(held) = tried[j] {

@@ -1,5 +1,6 @@
 // 000's `golden_section_min`, whose scores are trials, and the bandwidth that it comes to.
 ghost use Rattle.std.specs.Prelude.{◌≡◌, ◌*◌, ◌≤◌, false};
+ghost use Rattle.setup.specs.Bandwidth.{Usable};
 ghost use Rattle.search.specs.Memo.{Remembered};
 ghost use Rattle.search.specs.Search.{round_of, opened_of, golden_of, optimize_bandwidth};
 
@@ -9,11 +10,8 @@ use golden::Bracket;
 use setup::Problem;
 
 // The bracket's two inner points tried.
-fn opened_of(
-    problem: &Problem<'_>,
-    g: Bracket,
-    tried: &mut [Option<Tried>; 102],
-) -> Search
+fn opened_of(problem: &Problem<'_>, g: Bracket, tried: &mut [Option<Tried>; 102]) -> Search
+    requires few { problem.now.setup.n ≤ 512 }
     requires remembered { Remembered problem.now.setup problem.now.columns tried.old }
     ensures value { result ≡ opened_of problem.now.setup problem.now.columns g }
     ensures still_remembered { Remembered problem.now.setup problem.now.columns tried.new }
@@ -30,12 +28,8 @@ fn opened_of(
 }
 
 // One round of a search that is not over.
-fn round_of(
-    s: Search,
-    problem: &Problem<'_>,
-    r: usize,
-    tried: &mut [Option<Tried>; 102],
-) -> Search
+fn round_of(s: Search, problem: &Problem<'_>, r: usize, tried: &mut [Option<Tried>; 102]) -> Search
+    requires few { problem.now.setup.n ≤ 512 }
     requires remembered { Remembered problem.now.setup problem.now.columns tried.old }
     requires going { s.over ≡ false }
     requires few_solves { s.solves ≤ 512 * 102 }
@@ -53,11 +47,8 @@ fn round_of(
 }
 
 // 000's `golden_section_min` from lo to hi, lo below hi: two trials, then at most a hundred rounds of one.
-fn golden_section_min(
-    problem: &Problem<'_>,
-    lo: f64,
-    hi: f64,
-) -> Search
+fn golden_section_min(problem: &Problem<'_>, lo: f64, hi: f64) -> Search
+    requires { problem.now.setup.n ≤ 512 }
     ensures { result ≡ golden_of problem.now.setup problem.now.columns lo hi }
 {
     let mut tried = [None; 102];
@@ -73,17 +64,16 @@ fn golden_section_min(
 }
 
 // 000's `optimize_bandwidth` from lo to hi: the bandwidth at the best point.
-pub fn optimize_bandwidth(
-    problem: &Problem<'_>,
-    lo: f64,
-    hi: f64,
-) -> Optimum
-    ensures { result ≡ optimize_bandwidth problem.now.setup problem.now.columns lo hi }
+pub fn optimize_bandwidth(problem: &Problem<'_>, lo: f64, hi: f64) -> Optimum
+    ensures value { result ≡ optimize_bandwidth problem.now.setup problem.now.columns lo hi }
+    ensures usable { Usable result.bandwidth }
+    ensures few_solves { result.solves ≤ 512 * 102 }
 {
+    let u = problem.setup();
     let s = golden_section_min(problem, lo, hi);
     let g = s.bracket;
     Optimum {
-        bandwidth: bounds::bandwidth_at(problem.setup(), g.best),
+        bandwidth: bounds::bandwidth_at(u, g.best),
         solves: s.solves,
     }
 }

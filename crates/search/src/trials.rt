@@ -7,17 +7,15 @@ use super::Trial;
 use setup::{GwrBandwidth, Problem};
 
 // 000's `evaluate_aicc`: the trial at a bandwidth.
-pub fn evaluate_aicc(
-    problem: &Problem<'_>,
-    b: GwrBandwidth,
-) -> Trial
+pub fn evaluate_aicc(problem: &Problem<'_>, b: GwrBandwidth) -> Trial
     requires usable { Usable b }
     ensures { result ≡ evaluate_aicc problem.now.setup problem.now.columns b }
 {
+    let u = problem.setup();
     let mut none: [f64; 0] = [0.0; 0];
     let s = sweep::fit_all_locations(problem, b, false, &mut none);
     Trial {
-        score: criterion::score_of(s.ending(problem.setup())),
+        score: criterion::score_of(s.ending(u)),
         solves: s.solves(),
     }
 }

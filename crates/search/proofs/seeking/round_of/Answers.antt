@@ -6,7 +6,7 @@ use Rattle.search.proofs.seeking.round_of.Goals as goal
 
 pub overflow_add-result : goal.overflow_add-result
 overflow_add-result c =
-    let h = trial_made _ _ c.requires.shaped.sized.few _ _ c.trial_of-t.ensures.value in
+    let h = trial_made _ _ c.requires.few _ _ c.trial_of-t.ensures.value in
     omega (arith, h, c.requires.few_solves)
 
 pub returns : goal.returns
