@@ -125,6 +125,7 @@ fn see(walk: &Walker, k: usize, at: usize, seen: &mut [f64; 5])
 }
 
 // A walk from the place over the first m of n pantries, asked for k there, and then over the others, asked again.
+#[tactic(auto, using(crate::proofs::Walking::room, crate::proofs::Walking::walks_seen))]
 fn walks(
     coords: &[f64],
     n: usize,
@@ -195,6 +196,7 @@ fn tell(number: u32, s: Summary, rows: usize, reals: &mut [f64; 2], counts: &mut
 }
 
 // What is seen of a fit.
+#[tactic(auto, using(crate::proofs::Judging::seen_rejected, crate::proofs::Judging::seen_made))]
 fn seen_of(fit: Result<Fit, Refusal>, reals: &mut [f64; 2], counts: &mut [u64; 2]) -> u32
     ensures { (result, (reals.new, counts.new)) ≡ seen_of fit reals.old counts.old }
 {
@@ -211,6 +213,7 @@ fn seen_of(fit: Result<Fit, Refusal>, reals: &mut [f64; 2], counts: &mut [u64; 2
 }
 
 // The fit by these options.
+#[tactic(auto, using(crate::proofs::Judging::fit_told))]
 fn fit_seen(
     columns: &Columns<'_>,
     p: usize,
