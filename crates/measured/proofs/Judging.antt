@@ -11,7 +11,6 @@ use Rattle.setup.specs.declared.GwrOptions.{GwrOptions}
 use Rattle.setup.specs.Data.{Data}
 use Rattle.setup.specs.Options.{judged_by}
 use Rattle.sweep.specs.Finish.{number_of}
-use Rattle.std.specs.Prelude.{Result, Ok, Err}
 use Rattle.gwr.specs.declared.Fit.{Fit}
 use Rattle.gwr.specs.Fit.{gwr_fit}
 use Rattle.request.specs.Options.{options_of}

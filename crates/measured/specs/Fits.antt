@@ -8,7 +8,6 @@ use Rattle.setup.specs.declared.GwrCriterion.TheVariants.{Unguarded, Guarded}
 use Rattle.setup.specs.Data.{Data}
 use Rattle.setup.specs.Options.{judged_by}
 use Rattle.criterion.specs.declared.Summary.{Summary}
-use Rattle.refusal.specs.declared.Refusal.{Refusal}
 use Rattle.sweep.specs.Finish.{number_of}
 use Rattle.gwr.specs.declared.Fit.{Fit}
 use Rattle.gwr.specs.Fit.{gwr_fit}

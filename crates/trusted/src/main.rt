@@ -8,7 +8,7 @@ use criterion::Summary;
 use gwr::Fit;
 use kernel::GwrKernel;
 use refusal::Refusal;
-use setup::{GwrBandwidth, GwrOptions};
+use setup::{Columns, GwrBandwidth, GwrOptions};
 use std::io;
 
 // A space and the bits of a real.
@@ -67,10 +67,7 @@ fn print_answer(
 fn show(
     rt: &impl Print,
     name: &str,
-    coords: &[f64],
-    x: &[f64],
-    y: &[f64],
-    trust: &[f64],
+    columns: &Columns<'_>,
     p: usize,
     options: GwrOptions,
     out: &mut [f64],
@@ -78,7 +75,7 @@ fn show(
     requires { p ≤ 7 }
 {
     println!(rt; "{name}:")?;
-    let fit = gwr::gwr_fit(coords, x, y, trust, p, options, &mut *out);
+    let fit = gwr::gwr_fit(columns, p, options, &mut *out);
     print_answer(rt, fit, &*out, p + 4)
 }
 
@@ -92,68 +89,69 @@ fn by_count(kernel: GwrKernel, k: usize, searched: bool) -> GwrOptions {
 
 // Three at one place. The leverage of the first is infinite before its own weight is multiplied in.
 fn three(rt: &impl Print, name: &str, first: f64) -> io::Result<()> {
-    let coords = [0.0; 6];
-    let x = [1e200, 0.0, 1.0];
-    let y = [0.0; 3];
-    let trust = [first, 1.0, 1.0];
+    let columns = Columns {
+        coords: &[0.0; 6],
+        predictors: &[1e200, 0.0, 1.0],
+        responses: &[0.0; 3],
+        trusts: &[first, 1.0, 1.0],
+    };
     let options = by_distance(GwrKernel::Gaussian, 1.0);
     let mut out = [0.0; 15];
-    show(rt, name, &coords, &x, &y, &trust, 1, options, &mut out)
+    show(rt, name, &columns, 1, options, &mut out)
 }
 
 // Two at one place, the fewest of which that is so. Only the second weighs; that the square of its predictor is rounded makes a
 // second pivot.
 fn two(rt: &impl Print, name: &str, first: f64) -> io::Result<()> {
-    let coords = [0.0; 4];
-    let x = [1e200, 94906267.0];
-    let y = [0.0; 2];
-    let trust = [first, 1.0];
+    let columns = Columns {
+        coords: &[0.0; 4],
+        predictors: &[1e200, 94906267.0],
+        responses: &[0.0; 2],
+        trusts: &[first, 1.0],
+    };
     let options = by_distance(GwrKernel::Gaussian, 1.0);
     let mut out = [0.0; 10];
-    show(rt, name, &coords, &x, &y, &trust, 1, options, &mut out)
+    show(rt, name, &columns, 1, options, &mut out)
 }
 
 // Two by Bisquare with one neighbour, which is as far away as the bandwidth and so weighs nothing.
 fn neighbours(rt: &impl Print, name: &str, first: f64, second: f64) -> io::Result<()> {
-    let coords = [0.0, 0.0, 1.0, 0.0];
-    let x = [0.0; 0];
-    let y = [3.0, 4.0];
-    let trust = [first, second];
+    let columns = Columns {
+        coords: &[0.0, 0.0, 1.0, 0.0],
+        predictors: &[],
+        responses: &[3.0, 4.0],
+        trusts: &[first, second],
+    };
     let options = by_count(GwrKernel::Bisquare, 1, false);
     let mut out = [0.0; 8];
-    show(rt, name, &coords, &x, &y, &trust, 0, options, &mut out)
+    show(rt, name, &columns, 0, options, &mut out)
 }
 
 // One alone, whose trust is its system's only pivot, with room for so many of its row's four numbers.
 fn alone(rt: &impl Print, name: &str, trust: f64, room: usize) -> io::Result<()>
     requires { room ≤ 4 }
 {
-    let coords = [0.0, 0.0];
-    let x = [0.0; 0];
-    let y = [5.0];
-    let trusts = [trust];
+    let columns = Columns {
+        coords: &[0.0, 0.0],
+        predictors: &[],
+        responses: &[5.0],
+        trusts: &[trust],
+    };
     let options = by_distance(GwrKernel::Gaussian, 1.0);
     let mut out = [0.0; 4];
-    show(
-        rt,
-        name,
-        &coords,
-        &x,
-        &y,
-        &trusts,
-        0,
-        options,
-        &mut out[..room],
-    )
+    show(rt, name, &columns, 0, options, &mut out[..room])
 }
 
 // Four with one predictor.
 fn four(rt: &impl Print, name: &str, trust: &[f64], options: GwrOptions) -> io::Result<()> {
-    let coords = [0.0, 0.0, 1.0, 0.0, 0.0, 2.0, 3.0, 3.0];
-    let x = [1.0, 2.0, 4.0, 7.0];
-    let y = [2.0, 3.0, 5.0, 9.0];
+    let columns = Columns {
+        coords: &[0.0, 0.0, 1.0, 0.0, 0.0, 2.0, 3.0, 3.0],
+        predictors: &[1.0, 2.0, 4.0, 7.0],
+        responses: &[2.0, 3.0, 5.0, 9.0],
+        trusts: trust,
+    };
     let mut out = [0.0; 20];
-    show(rt, name, &coords, &x, &y, trust, 1, options, &mut out)
+    show(rt, name, &columns, 1, options, &mut out)
 }
 
 fn surprises(rt: &impl Print) -> io::Result<()> {

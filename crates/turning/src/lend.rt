@@ -2,9 +2,9 @@
 ghost use Rattle.std.specs.Prelude.{◌^◌, ◌<◌};
 
 use crate::made;
-use crate::sample::Sample;
 use job::Turned;
 use refusal::Refusal;
+use setup::Columns;
 use stepping::Job;
 
 // A turn, and the refusal that it must answer, if any.
@@ -89,38 +89,38 @@ fn kind_of(seed: u64, k: u32, spoils: bool, x: &[f64]) -> Kind
 
 impl Kind {
     // How many coordinates, predictors, responses and trusts are lent.
-    fn coordinates(self, data: Sample<'_>) -> usize {
+    fn coordinates(self, columns: &Columns<'_>) -> usize {
         match self {
             Kind::NoCoordinates => 0,
-            _ => data.coords.len(),
+            _ => columns.coords.len(),
         }
     }
 
-    fn predictors(self, data: Sample<'_>) -> usize {
+    fn predictors(self, columns: &Columns<'_>) -> usize {
         match self {
             Kind::OtherPredictors => {
-                if data.x.is_empty() {
-                    data.y.len()
+                if columns.predictors.is_empty() {
+                    columns.responses.len()
                 } else {
-                    data.x.len() - 1
+                    columns.predictors.len() - 1
                 }
             }
-            _ => data.x.len(),
+            _ => columns.predictors.len(),
         }
     }
 
-    fn responses(self, data: Sample<'_>) -> usize {
+    fn responses(self, columns: &Columns<'_>) -> usize {
         match self {
             Kind::NoResponses => 0,
-            _ => data.y.len(),
+            _ => columns.responses.len(),
         }
     }
 
-    fn trusts(self, data: Sample<'_>) -> usize {
+    fn trusts(self, columns: &Columns<'_>) -> usize {
         match self {
             Kind::NoTrusts => 0,
             Kind::ManyTrusts => 12,
-            _ => data.trust.len(),
+            _ => columns.trusts.len(),
         }
     }
 
@@ -171,33 +171,41 @@ fn lend(from: &[f64], to: &mut [f64], last: Option<f64>) {
 }
 
 // A turn of this kind.
-fn turn_of(kind: Kind, j: Job, data: Sample<'_>, out: &mut [f64], allowance: u32) -> Turned {
+fn turn_of(kind: Kind, j: Job, columns: &Columns<'_>, out: &mut [f64], allowance: u32) -> Turned {
     let mut coords = [0.0; 24];
     let mut x = [0.0; 36];
     let mut y = [0.0; 12];
     let mut trust = [0.0; 12];
     lend(
-        data.coords,
+        columns.coords,
         &mut coords,
         kind.bad(Kind::BadCoordinate, f64::INFINITY),
     );
-    lend(data.x, &mut x, kind.bad(Kind::BadPredictor, f64::NAN));
-    lend(data.y, &mut y, kind.bad(Kind::BadResponse, f64::NAN));
-    lend(data.trust, &mut trust, kind.bad_trust());
+    lend(
+        columns.predictors,
+        &mut x,
+        kind.bad(Kind::BadPredictor, f64::NAN),
+    );
+    lend(
+        columns.responses,
+        &mut y,
+        kind.bad(Kind::BadResponse, f64::NAN),
+    );
+    lend(columns.trusts, &mut trust, kind.bad_trust());
     let out_end = if kind.lends_output() { out.len() } else { 0 };
-    let lent = Sample {
-        coords: &coords[..kind.coordinates(data).min(24)],
-        x: &x[..kind.predictors(data).min(36)],
-        y: &y[..kind.responses(data).min(12)],
-        trust: &trust[..kind.trusts(data).min(12)],
+    let lent = Columns {
+        coords: &coords[..kind.coordinates(columns).min(24)],
+        predictors: &x[..kind.predictors(columns).min(36)],
+        responses: &y[..kind.responses(columns).min(12)],
+        trusts: &trust[..kind.trusts(columns).min(12)],
     };
-    lent.turn(j, &mut out[..out_end], allowance)
+    job::turn(j, &lent, &mut out[..out_end], allowance)
 }
 
 // Turn k of a list.
 pub fn give_turn(
     j: Job,
-    data: Sample<'_>,
+    columns: &Columns<'_>,
     out: &mut [f64],
     seed: u64,
     k: u32,
@@ -205,12 +213,12 @@ pub fn give_turn(
 ) -> Given
     requires { seed < 2 ^ 31 }
 {
-    let kind = kind_of(seed, k, spoils, data.x);
+    let kind = kind_of(seed, k, spoils, columns.predictors);
     let want = if j.stage.is_ended() {
         Some(Refusal::AlreadyEnded)
     } else {
         kind.refusal()
     };
-    let turned = turn_of(kind, j, data, out, allowance_of(seed, k));
+    let turned = turn_of(kind, j, columns, out, allowance_of(seed, k));
     Given { turned, want }
 }

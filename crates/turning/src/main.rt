@@ -8,7 +8,6 @@ mod made;
 mod play;
 mod refuse;
 mod report;
-mod sample;
 mod tally;
 mod trusts;
 

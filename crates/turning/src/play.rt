@@ -3,14 +3,13 @@ ghost use Rattle.std.specs.Prelude.{◌≡◌, ◌^◌, ◌<◌, ◌≤◌, leng
 
 use crate::lend::Given;
 use crate::made::Case;
-use crate::sample::Sample;
 use crate::tally::Tally;
 use crate::{compare, lend, made};
 use criterion::Summary;
 use gwr::Fit;
 use job::{Answer, Turned};
 use refusal::Refusal;
-use setup::GwrOptions;
+use setup::{Columns, GwrOptions};
 use stepping::Job;
 use sweep::Finish;
 
@@ -22,12 +21,12 @@ struct Seen {
     steps: u32,
 }
 
-// A job that has begun: its first record and its data, and the end and the output of its uninterrupted fit. Some turns are lent bad
-// trusts where `spoils`.
+// A job that has begun: its first record and the columns of its data, and the end and the output of its uninterrupted fit. Some turns
+// are lent bad trusts where `spoils`.
 #[derive(Clone, Copy)]
 struct Begun<'a> {
     first: Job,
-    data: Sample<'a>,
+    columns: &'a Columns<'a>,
     ending: Finish,
     rows: &'a [f64],
     spoils: bool,
@@ -37,18 +36,18 @@ struct Begun<'a> {
 pub fn play_case(c: Case, spoils: bool, t: &mut Tally)
     requires { (c.n ≤ 10) × (c.p ≤ 2) × (c.seed < 2 ^ 31) }
 {
-    let data = Sample {
+    let columns = Columns {
         coords: &c.coords[..2 * c.n],
-        x: &c.x[..c.n * c.p],
-        y: &c.y[..c.n],
-        trust: &c.trust[..c.n],
+        predictors: &c.x[..c.n * c.p],
+        responses: &c.y[..c.n],
+        trusts: &c.trust[..c.n],
     };
-    play_data(data, c.p, c.options, c.seed, spoils, t);
+    play_columns(&columns, c.p, c.options, c.seed, spoils, t);
 }
 
 // The output has 100 numbers: those past the rows are watched too.
-fn play_data(
-    data: Sample<'_>,
+fn play_columns(
+    columns: &Columns<'_>,
     p: usize,
     options: GwrOptions,
     seed: u64,
@@ -57,20 +56,14 @@ fn play_data(
 )
     requires { seed < 2 ^ 31 }
 {
-    let Sample {
-        coords,
-        x,
-        y,
-        trust,
-    } = data;
     let mut rows = [0.5; 100];
-    let ending = ending_of(gwr::gwr_fit(coords, x, y, trust, p, options, &mut rows));
+    let ending = ending_of(gwr::gwr_fit(columns, p, options, &mut rows));
     t.fitted(ending.refusal);
-    match starting::begin(coords, x, y, trust, p, options, &rows) {
+    match starting::begin(columns, p, options, &rows) {
         Ok(first) => {
             let begun = Begun {
                 first,
-                data,
+                columns,
                 ending,
                 rows: &rows,
                 spoils,
@@ -115,10 +108,10 @@ fn play_list(b: Begun<'_>, seed: u64, t: &mut Tally)
     t.listed();
     for k in 0..40u32 {
         at = made::next_seed(at);
-        let given = lend::give_turn(played, b.data, &mut out, at, k, b.spoils);
+        let given = lend::give_turn(played, b.columns, &mut out, at, k, b.spoils);
         played = given.turned.job;
         steps = steps.wrapping_add(given.turned.steps);
-        followed = follow(followed, b.data, &mut beside, given.turned.steps);
+        followed = follow(followed, b.columns, &mut beside, given.turned.steps);
         let seen = Seen {
             beside: compare::same_reals(&out, &beside),
             rows: compare::same_reals(&out, b.rows),
@@ -126,16 +119,16 @@ fn play_list(b: Begun<'_>, seed: u64, t: &mut Tally)
         };
         account(given, followed, b.ending, seen, &mut *t);
     }
-    let last = b.data.turn(played, &mut out, u32::MAX);
+    let last = job::turn(played, b.columns, &mut out, u32::MAX);
     let same_out = compare::same_reals(&out, &beside);
     t.stood(last, played, Some(Refusal::AlreadyEnded), same_out);
 }
 
 // The record after so many turns of one step.
-fn follow(j: Job, data: Sample<'_>, out: &mut [f64], steps: u32) -> Job {
+fn follow(j: Job, columns: &Columns<'_>, out: &mut [f64], steps: u32) -> Job {
     let mut at = j;
     for k in 0..steps {
-        at = data.turn(at, &mut *out, 1).job;
+        at = job::turn(at, columns, &mut *out, 1).job;
     }
     at
 }

@@ -1,11 +1,10 @@
 // Records at the limits of what is fit: a turn must refuse those beyond them with 19.
 use crate::compare;
-use crate::sample::Sample;
 use crate::tally::Tally;
 use golden::Bracket;
 use kernel::GwrKernel;
 use refusal::Refusal;
-use setup::{GwrBandwidth, GwrOptions, Setup};
+use setup::{Columns, GwrBandwidth, GwrOptions, Setup};
 use stepping::{Job, Stage, Trials};
 use sweep::Sweep;
 
@@ -113,15 +112,15 @@ fn trial_rows() -> [Row; 18] {
 
 // A turn on the record answers as is wanted, and moves nothing.
 fn judge(row: Row, t: &mut Tally) {
-    let data = Sample {
+    let columns = Columns {
         coords: &[0.0, 0.0, 1.0, 0.0, 0.0, 2.0, 3.0, 3.0],
-        x: &[1.0, 2.0, 4.0, 7.0],
-        y: &[2.0, 3.0, 5.0, 9.0],
-        trust: &[1.0; 4],
+        predictors: &[1.0, 2.0, 4.0, 7.0],
+        responses: &[2.0, 3.0, 5.0, 9.0],
+        trusts: &[1.0; 4],
     };
     let before = [0.5; 24];
     let mut out = before;
-    let turned = data.turn(row.job, &mut out, 0);
+    let turned = job::turn(row.job, &columns, &mut out, 0);
     t.stood(
         turned,
         row.job,
