@@ -71,13 +71,14 @@ fn sum_squares(
         residual: 0.0,
     };
     let u = problem.setup();
+    let x = problem.predictors();
     let y = problem.responses();
     // An index: chunks of no predictors cannot be zipped.
     for j in 0..u.n {
         if w[j] == 0.0 {
             continue;
         }
-        let own = normal::predictors_of(problem, j);
+        let own = normal::predictors_of(x, u.n, u.p, j);
         s = add_squares(s, w[j], y[j], mean, fitted(&beta, own));
     }
     s
@@ -119,14 +120,15 @@ pub fn values_at(
     requires { i < problem.now.setup.n }
     ensures { result ≡ values_at problem.now.setup problem.now.columns w.now i fit.now.inverse fit.now.beta sum }
 {
-    let p = problem.setup().p;
+    let u = problem.setup();
+    let x = problem.predictors();
     let y = problem.responses();
     let row = normal::design_row(problem, i);
-    let predicted = fitted(&fit.beta, normal::predictors_of(problem, i));
+    let predicted = fitted(&fit.beta, normal::predictors_of(x, u.n, u.p, i));
     Values {
         predicted,
         residual: y[i] - predicted,
         local_r2: local_r_squared(problem, w, fit.beta, sum),
-        leverage: hat_diagonal(&fit.inverse, row, w[i], p + 1),
+        leverage: hat_diagonal(&fit.inverse, row, w[i], u.p + 1),
     }
 }

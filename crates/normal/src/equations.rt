@@ -54,6 +54,7 @@ pub fn equations_of(problem: &Problem<'_>, w: &[f64; 512]) -> Equations
     ensures { result ≡ equations_of problem.now.setup problem.now.columns w.now }
 {
     let u = problem.setup();
+    let x = problem.predictors();
     let y = problem.responses();
     let mut e = Equations {
         a: [[0.0; 8]; 8],
@@ -64,7 +65,7 @@ pub fn equations_of(problem: &Problem<'_>, w: &[f64; 512]) -> Equations
         if w[j] == 0.0 {
             continue;
         }
-        observe(&mut e, w[j], y[j], predictors_of(problem, j));
+        observe(&mut e, w[j], y[j], predictors_of(x, u.n, u.p, j));
     }
     e
 }

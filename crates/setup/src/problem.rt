@@ -86,7 +86,8 @@ impl<'a> Problem<'a> {
     }
 
     pub fn predictors(&self) -> &'a [f64]
-        ensures { result.now ≡ self.now.columns.predictors }
+        ensures predictors { result.now ≡ self.now.columns.predictors }
+        ensures rows { length result.now ≡ self.now.setup.n * self.now.setup.p }
     {
         let columns = &self.columns;
         columns.predictors
