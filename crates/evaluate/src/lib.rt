@@ -58,12 +58,7 @@ fn add_squares(s: Squares, w: f64, y: f64, mean: f64, fitted: f64) -> Squares
 }
 
 // Both sums of squares over observations in order, leaving out weight 0.
-fn sum_squares(
-    problem: &Problem<'_>,
-    w: &[f64; 512],
-    beta: [f64; 8],
-    mean: f64,
-) -> Squares
+fn sum_squares(problem: &Problem<'_>, w: &[f64; 512], beta: [f64; 8], mean: f64) -> Squares
     ensures { result ≡ sum_squares problem.now.setup problem.now.columns w.now beta mean }
 {
     let mut s = Squares {
@@ -96,12 +91,7 @@ fn explained_share(s: Squares) -> f64
 }
 
 // 000's `local_r_squared`, of a fit with these coefficients under weights with this sum.
-fn local_r_squared(
-    problem: &Problem<'_>,
-    w: &[f64; 512],
-    beta: [f64; 8],
-    sum: f64,
-) -> f64
+fn local_r_squared(problem: &Problem<'_>, w: &[f64; 512], beta: [f64; 8], sum: f64) -> f64
     ensures { result ≡ local_r_squared problem.now.setup problem.now.columns w.now beta sum }
 {
     let n = problem.setup().n;

@@ -100,17 +100,16 @@ fn reduce(a: &mut [[f64; 16]; 8], i: usize, n: usize, m: usize, p: usize)
 }
 
 // The elimination over n rows and m columns, on one matrix in place: none where a pivot is below 1e-12, that is, the matrix is singular.
-pub fn eliminate(a: [[f64; 16]; 8], n: usize, m: usize) -> Option<[[f64; 16]; 8]>
+pub fn eliminate(mut a: [[f64; 16]; 8], n: usize, m: usize) -> Option<[[f64; 16]; 8]>
     requires { (n ≤ 8) × (m ≤ 16) }
     ensures { result ≡ eliminated a n m }
 {
-    let mut r = a;
     for i in 0..n {
-        let p = find_pivot(&r, i, n);
+        let p = find_pivot(&a, i, n);
         if p.val < 1e-12 {
             return None;
         }
-        reduce(&mut r, i, n, m, p.row);
+        reduce(&mut a, i, n, m, p.row);
     }
-    Some(r)
+    Some(a)
 }

@@ -116,11 +116,7 @@ pub fn check_room(u: Setup, out: usize) -> Result<(), Refusal>
 }
 
 // Refusals 1 to 7, 8 to 10, 26 and 13. `out` is the output's length.
-pub fn check_input(
-    columns: &Columns<'_>,
-    p: usize,
-    out: usize,
-) -> Result<(), Refusal>
+pub fn check_input(columns: &Columns<'_>, p: usize, out: usize) -> Result<(), Refusal>
     ensures { result ≡ judge (input_tests columns.now p out) }
 {
     check_shape(

@@ -64,12 +64,7 @@ fn tell(j: Job, steps: u32) -> Turned
 }
 
 // Steps until the allowance is spent or the job ends.
-fn run(
-    j: Job,
-    problem: &Problem<'_>,
-    out: &mut [f64],
-    allowance: u32,
-) -> Turned
+fn run(j: Job, problem: &Problem<'_>, out: &mut [f64], allowance: u32) -> Turned
     requires sound { Sound 0 j }
     requires own { problem.now.setup ≡ j.setup }
     requires room { j.setup.n * (j.setup.p + 4) ≤ length out.old }
@@ -86,12 +81,7 @@ fn run(
 }
 
 // A turn: refused, or so many steps as the allowance and the end allow.
-pub fn turn(
-    j: Job,
-    columns: &Columns<'_>,
-    out: &mut [f64],
-    allowance: u32,
-) -> Turned
+pub fn turn(j: Job, columns: &Columns<'_>, out: &mut [f64], allowance: u32) -> Turned
     ensures { (result, out.new) ≡ turn_of j columns.now out.old allowance }
 {
     match check_turn(j, columns, out.len()) {

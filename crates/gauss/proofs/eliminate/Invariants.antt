@@ -5,4 +5,4 @@ use Rattle.gauss.specs.Gauss.{try_step}
 use Rattle.gauss.proofs.eliminate.Given as goal
 
 abbrev pub invariant-loop-i : goal.invariant-loop-i
-invariant-loop-i l = Range (try_step l.n l.m) (Some l.initial.r) 0 l.n l.i (Some l.r)
+invariant-loop-i l = Range (try_step l.n l.m) (Some l.initial.a) 0 l.n l.i (Some l.a)
