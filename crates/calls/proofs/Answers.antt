@@ -16,9 +16,9 @@ use Rattle.wire.proofs.Decoding.{length_reals}
 use Rattle.refusal.specs.declared.Refusal.{Refusal}
 use Rattle.setup.specs.declared.GwrOptions.{GwrOptions}
 use Rattle.setup.specs.Data.{Data, trusted_data}
-use Rattle.sweep.specs.Finish.{number_of}
+use Rattle.sweep.specs.Finish.{finish_number}
 use Rattle.gwr.specs.declared.Fit.{Fit}
-use Rattle.gwr.specs.Fit.{gwr_fit, rows_of}
+use Rattle.gwr.specs.Fit.{gwr_fit, rows_written}
 use Rattle.calls.specs.Calls.{AfterCall, numbers_of, placed_rows, fitted_bytes, fit_parts, room_of, summary_bytes, Offered}
 use Rattle.gwr.proofs.Bounds.{Made, Fits, fits}
 
@@ -73,7 +73,7 @@ module _ (d : Data) (p : ℕ) (o : GwrOptions) (out : List Float) (z : Result Fi
   -- a fit that was made: its rows are within the output, whose bytes have room, and so has its summary
   module _ (f : Fit) (made : z ≡ Ok f) where
     pub rows_fit : f.rows * (p + 4) ≤ length out
-    rows_fit = subst (λ (y : Result Fit Refusal). rows_of y * (p + 4) ≤ length out) made sound.rows
+    rows_fit = subst (λ (y : Result Fit Refusal). rows_written y * (p + 4) ≤ length out) made sound.rows
 
     pub rows_long : length after ≡ length out
     rows_long = sound.long
@@ -82,7 +82,7 @@ module _ (d : Data) (p : ℕ) (o : GwrOptions) (out : List Float) (z : Result Fi
     fit_some = (subst (λ (y : Result Fit Refusal). IfOk y (λ g. Made (length d.coords / 2) (length out) g)) made sound.sound).some
 
     pub fitted_is : (bytes' summary' : List ℕ) (number : ℕ) → bytes' ≡ placed bytes 0 (real_bytes (take (f.rows * (p + 4)) after)) → summary' ≡ placed summary 0 (summary_bytes f.finish.summary)
-        → number ≡ number_of f.finish → ◌≡◌ {A = AfterCall} (number, (bytes', summary')) (call (gwr_fit d p o out))
+        → number ≡ finish_number f.finish → ◌≡◌ {A = AfterCall} (number, (bytes', summary')) (call (gwr_fit d p o out))
     unfolding placed_rows
     fitted_is bytes' summary' number b s n = triple n b s ∙ sym (ap (λ (y : Result Fit Refusal). call (y, after)) made) ∙ ap call e
 

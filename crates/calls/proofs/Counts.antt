@@ -18,7 +18,7 @@ use Rattle.criterion.specs.declared.Summary.{Summary}
 use Rattle.setup.specs.declared.GwrOptions.{GwrOptions}
 use Rattle.checks.specs.Judge.{Check, judge, ruled}
 use Rattle.sweep.specs.Finish.{number_at}
-use Rattle.gwr.specs.Fit.{rows_of}
+use Rattle.gwr.specs.Fit.{rows_written}
 use Rattle.request.specs.Options.{options_of, named}
 use Rattle.calls.specs.Calls.{AfterCall, refused_call, summary_bytes, placed_rows, answer_bytes, fitted_bytes, numbers_of, numbers_fit, call_tests, fit_bytes}
 use Rattle.gwr.proofs.Bounds.{Made, fits}
@@ -66,7 +66,7 @@ answered_fit coords x y p o out summary =
     let rows : List Float = replicate (length coords / 16 * (p + 4)) zero64 in
     let s = fits (numbers_of coords x y p) p o rows in
     let f = numbers_fit coords x y p o in
-    answered_sound f.0 _ (length rows) (take (rows_of f.0 * (p + 4)) f.1) out summary s.sound
+    answered_sound f.0 _ (length rows) (take (rows_written f.0 * (p + 4)) f.1) out summary s.sound
 
 pub answered : (coords x y : List ℕ) (p kernel kind bandwidth : ℕ) (out summary : List ℕ) → Answered (fit_bytes coords x y p kernel kind bandwidth out summary)
 unfolding fit_bytes ruled

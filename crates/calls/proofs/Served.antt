@@ -22,7 +22,7 @@ use Rattle.criterion.specs.Aicc.{failed_summary}
 use Rattle.checks.specs.Judge.{judge, NoneOf}
 use Rattle.checks.proofs.Judge.{none_head, none_append}
 use Rattle.input.specs.Checks.{value_tests, fit_tests}
-use Rattle.gwr.specs.Fit.{rows_of}
+use Rattle.gwr.specs.Fit.{rows_written}
 use Rattle.gwr.specs.declared.Fit.{Fit}
 use Rattle.gwr.proofs.Bounds.{fits}
 use Rattle.request.specs.Options.{options_of, is_unknown, named}
@@ -138,12 +138,12 @@ module _ (coords x y : List ℕ) (p kernel kind bandwidth : ℕ) (out summary : 
       }
 
   -- it leaves every byte behind the rows written and behind the summary's 24
-  pub call_untouched : NoneOf tests → Untouched (8 * (rows_of f.0 * (p + 4))) out summary (fit_bytes coords x y p kernel kind bandwidth out summary)
+  pub call_untouched : NoneOf tests → Untouched (8 * (rows_written f.0 * (p + 4))) out summary (fit_bytes coords x y p kernel kind bandwidth out summary)
   call_untouched h =
       let z = call_passed h in
-      let numbers = take (rows_of f.0 * (p + 4)) f.1 in
+      let numbers = take (rows_written f.0 * (p + 4)) f.1 in
       let g = fits (numbers_of coords x y p) p o room in
       let e = (call_decides coords x y p out summary kernel kind bandwidth).served h in
       rw e
-      (answer_untouched numbers out summary (8 * (rows_of f.0 * (p + 4))) (omega (arith, length_real_bytes numbers, length-take (rows_of f.0 * (p + 4)) f.1))
+      (answer_untouched numbers out summary (8 * (rows_written f.0 * (p + 4))) (omega (arith, length_real_bytes numbers, length-take (rows_written f.0 * (p + 4)) f.1))
       (omega (arith, g.rows, length-replicate (n * (p + 4)) zero64, z.bytes)) z.whole f.0)

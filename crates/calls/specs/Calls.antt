@@ -11,9 +11,9 @@ use Rattle.setup.specs.Data.{Data, trusting}
 use Rattle.setup.specs.Shape.{setup_of}
 use Rattle.criterion.specs.declared.Summary.{Summary}
 use Rattle.input.specs.Checks.{value_tests, option_tests}
-use Rattle.sweep.specs.Finish.{number_of}
+use Rattle.sweep.specs.Finish.{finish_number}
 use Rattle.gwr.specs.declared.Fit.{Fit}
-use Rattle.gwr.specs.Fit.{gwr_fit, rows_of}
+use Rattle.gwr.specs.Fit.{gwr_fit, rows_written}
 use Rattle.request.specs.Lengths.{byte_tests}
 use Rattle.request.specs.Options.{options_of, is_unknown, named}
 
@@ -62,12 +62,12 @@ placed_rows number rows v out summary = (number, (placed out 0 (real_bytes rows)
 
 -- a refusal met while solving keeps the rows before it
 abbrev pub answer_bytes : Result Fit Refusal → List Float → List ℕ → List ℕ → AfterCall
-answer_bytes (Ok f) rows out summary = placed_rows (number_of f.finish) rows f.finish.summary out summary
+answer_bytes (Ok f) rows out summary = placed_rows (finish_number f.finish) rows f.finish.summary out summary
 answer_bytes (Err r) rows out summary = refused_call r out summary
 
 -- a fit's answer, with as many rows of p + 4 numbers as it says
 abbrev pub fitted_bytes : ℕ → Result Fit Refusal × List Float → List ℕ → List ℕ → AfterCall
-fitted_bytes p f out summary = answer_bytes f.0 (take (rows_of f.0 * (p + 4)) f.1) out summary
+fitted_bytes p f out summary = answer_bytes f.0 (take (rows_written f.0 * (p + 4)) f.1) out summary
 
 -- the fit of the numbers, with an output of n rows
 abbrev pub numbers_fit : List ℕ → List ℕ → List ℕ → ℕ → GwrOptions → Result Fit Refusal × List Float

@@ -84,7 +84,7 @@ unfoldable pub use Rattle.search.specs.Trial.{trial_of}
 pub use Rattle.search.specs.declared.Optimum.{Optimum}
 pub use Rattle.search.specs.declared.Search.{Search}
 pub use Rattle.search.specs.declared.Trial.{Trial}
-pub use Rattle.gwr.specs.Fit.{fit_from, fitted, answered, planned, rows_of}
+pub use Rattle.gwr.specs.Fit.{fit_from, fitted, answered, planned, rows_written}
 unfoldable pub use Rattle.gwr.specs.Fit.{final_of, gwr_fit, sought_of}
 pub use Rattle.gwr.specs.declared.Fit.{Fit}
 pub use Rattle.stepping.specs.Sound.{OfKind, TrialsAt, Sound}

@@ -18,15 +18,15 @@ use Rattle.real.specs.Reals.{zero64}
 use Rattle.real.specs.Finite.{all_of, all_finite}
 use Rattle.real.proofs.Fold.{front}
 use Rattle.real.specs.Matrix.{Row, Matrix}
-use Rattle.estimate.specs.Inner.{plus_product, inner_product}
+use Rattle.estimate.specs.Inner.{plus_product, product_sum}
 use Rattle.estimate.specs.Inverse.{inverse_cell, inverse_step, inverse_times, all_step, all_below, inverse_row_finite}
 use Rattle.estimate.specs.Estimate.{coefficients_finite}
 
 -- a fold over the places from a on, each of which adds a product
 module _ (f : ℕ → Float → Float) where
   pub inner_range : (a : ℕ) (start : Float) (u v : Row) → length u ≡ length v → ((q : ℕ) → q < length u → (s : Float) → plus_product s (get_or u q nan, get_or v q nan) ≡ f (a + q) s)
-      → inner_product start u v ≡ range f a (a + length u) start
-  unfolding inner_product range turns
+      → product_sum start u v ≡ range f a (a + length u) start
+  unfolding product_sum range turns
   inner_range a start [] v e h = let z : a + 0 - a ≡ 0 = omega arith in rw z
   inner_range a start (x ∷ u) [] e h = absurd (omega arith)
   inner_range a start (x ∷ u) (y ∷ v) e h =
@@ -39,12 +39,12 @@ module _ (f : ℕ → Float → Float) where
 
 -- row p of the inverse stands in the eliminated row from cell m on
 pub inverse_inner : (a : Matrix) (m p : ℕ) (v : Row) {k : ℕ} → k ≡ m → m + m ≤ length (get_or a p []) → m ≤ length v
-    → inner_product zero64 (take k (drop m (get_or a p []))) (take m v) ≡ inverse_times a m p v
+    → product_sum zero64 (take k (drop m (get_or a p []))) (take m v) ≡ inverse_times a m p v
 unfolding inverse_times inverse_step inverse_cell
 inverse_inner a m p v {k} e h g =
     let row = get_or a p [] in
     let long : length (take m (drop m row)) ≡ m = length-take-le m (drop m row) (omega (arith, length-drop m row)) in
-    ap (λ (i : ℕ). inner_product zero64 (take i (drop m row)) (take m v)) e
+    ap (λ (i : ℕ). product_sum zero64 (take i (drop m row)) (take m v)) e
     ∙ inner_range (inverse_step a m p v) 0 zero64 (take m (drop m row)) (take m v) (long ∙ sym (length-take-le m v g))
     (λ q l s. let z : 0 + q ≡ q = omega arith in let below : q < m = omega arith in rw (z, get_or-take m (drop m row) q nan below, get_or-drop m row q nan, get_or-take m v q nan below))
     ∙ ap (λ (i : ℕ). range (inverse_step a m p v) 0 i zero64) (let z : 0 + length (take m (drop m row)) ≡ m = omega arith in z)

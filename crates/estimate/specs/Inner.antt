@@ -10,5 +10,5 @@ abbrev pub plus_product : Float → Float × Float → Float
 plus_product sum c = add binary64 sum (mul binary64 c.0 c.1)
 
 -- start, and each cell of u times that of v added to it in turn
-unfoldable pub inner_product : Float → Row → Row → Float
-inner_product start u v = fold plus_product start (zip u v)
+unfoldable pub product_sum : Float → Row → Row → Float
+product_sum start u v = fold plus_product start (zip u v)

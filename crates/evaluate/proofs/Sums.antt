@@ -19,14 +19,14 @@ use Rattle.evaluate.specs.Evaluate.{inner_step, inner_product}
 
 -- the intercept apart, and then each coefficient with its predictor
 pub fitted_is : (beta : Row) (own : List Float) (k : ℕ) → k ≡ length own → length own ≤ 7 → length beta ≡ 8
-    → estimate.inner_product (add binary64 zero64 (mul binary64 (get_or beta 0 nan) one64)) (take k (drop 1 beta)) own ≡ inner_product beta (design_of own) (length own + 1)
+    → estimate.product_sum (add binary64 zero64 (mul binary64 (get_or beta 0 nan) one64)) (take k (drop 1 beta)) own ≡ inner_product beta (design_of own) (length own + 1)
 unfolding inner_product inner_step
 fitted_is beta own k e few eight =
     let p = length own in
     let start = add binary64 zero64 (mul binary64 (get_or beta 0 nan) one64) in
     let f = inner_step beta (design_of own) in
     let long : length (take p (drop 1 beta)) ≡ p = length-take-le p (drop 1 beta) (omega (arith, length-drop 1 beta)) in
-    ap (λ (i : ℕ). estimate.inner_product start (take i (drop 1 beta)) own) e
+    ap (λ (i : ℕ). estimate.product_sum start (take i (drop 1 beta)) own) e
     ∙ inner_range f 1 start (take p (drop 1 beta)) own long
     (λ q l s.
     let at : 1 + q ≡ q + 1 = omega arith in
@@ -44,7 +44,7 @@ fitted_at x n p j long h is beta e =
     ∙ ap (λ (m : ℕ). inner_product beta (design_of (predictors_of x p j)) (m + 1)) (own_long x p j within)
     ∙ ap (λ (d : Row). inner_product beta d (p + 1)) (design_alone x p j within)
 
-pub weighted_is : (w y : Row) (n : ℕ) → n ≤ length w → length y ≡ n → estimate.inner_product zero64 (take n w) y ≡ inner_product w y n
+pub weighted_is : (w y : Row) (n : ℕ) → n ≤ length w → length y ≡ n → estimate.product_sum zero64 (take n w) y ≡ inner_product w y n
 unfolding inner_product inner_step
 weighted_is w y n h e =
     let long = length-take-le n w h in

@@ -31,7 +31,7 @@ use Rattle.sweep.proofs.Reached.{ReachedAt, sweep_reached}
 use Rattle.search.specs.Search.{optimize_bandwidth}
 use Rattle.search.proofs.Solves.{optimum_made}
 use Rattle.gwr.specs.declared.Fit.{Fit}
-use Rattle.gwr.specs.Fit.{final_of, sought_of, planned, fitted, answered, gwr_fit, rows_of}
+use Rattle.gwr.specs.Fit.{final_of, sought_of, planned, fitted, answered, gwr_fit, rows_written}
 use Rattle.gwr.proofs.Swept.{sweep_long}
 
 -- a fit that was made of n observations, with an output of this length
@@ -41,7 +41,7 @@ pub record Made (n out : ℕ) (f : Fit) : Type 0 where
   pub whole : f.finish.refusal ≡ None → f.rows ≡ n
 
 pub record Fits (n p out : ℕ) (f : Result Fit Refusal × List Float) : Type 0 where
-  pub rows : rows_of f.0 * (p + 4) ≤ out
+  pub rows : rows_written f.0 * (p + 4) ≤ out
   pub long : length f.1 ≡ out
   pub sound : IfOk f.0 (λ g. Made n out g)
 

@@ -50,6 +50,6 @@ unfoldable pub gwr_fit : Data → ℕ → GwrOptions → List Float → Result F
 gwr_fit d p o out = answered (accept_of d p o (length out)) (setup_of d p o) d out
 
 -- the number of rows written
-abbrev pub rows_of : Result Fit Refusal → ℕ
-rows_of (Ok f) = f.rows
-rows_of (Err r) = 0
+abbrev pub rows_written : Result Fit Refusal → ℕ
+rows_written (Ok f) = f.rows
+rows_written (Err r) = 0

@@ -17,7 +17,7 @@ use Rattle.refusal.proofs.Range.{numbered}
 use Rattle.criterion.specs.declared.Summary.{Summary}
 use Rattle.refusal.specs.Numbers.{refusal_number}
 use Rattle.sweep.specs.Finish.{number_at}
-use Rattle.gwr.specs.Fit.{rows_of as fit_rows}
+use Rattle.gwr.specs.Fit.{rows_written as fit_rows}
 use Rattle.gwr.proofs.Bounds.{Made}
 use Rattle.calls.specs.Calls.{summary_bytes, placed_rows, answer_bytes}
 use Rattle.calls.proofs.Counts.{summary_solves}

@@ -17,5 +17,5 @@ abbrev pub number_at : Option Refusal → ℕ
 number_at None = 0
 number_at (Some r) = refusal_number r
 
-abbrev pub number_of : Finish → ℕ
-number_of f = number_at f.refusal
+abbrev pub finish_number : Finish → ℕ
+finish_number f = number_at f.refusal

@@ -5,7 +5,7 @@
 ghost use Rattle.std.specs.Prelude.{◌≡◌, ◌+◌, ◌*◌, ◌≤◌, ◌<◌, length};
 ghost use Rattle.setup.specs.Bandwidth.{Usable};
 ghost use Rattle.sweep.specs.Sweep.{new_sweep, add_values, next_location, row_after, fit_all_locations, solves_of, ending_of, RoomFor};
-ghost use Rattle.sweep.specs.Finish.{finish_of, number_of};
+ghost use Rattle.sweep.specs.Finish.{finish_of, finish_number};
 
 use criterion::Summary;
 use evaluate::Values;
@@ -138,7 +138,7 @@ pub struct Finish {
 impl Finish {
     // The number that a byte call answers: 0 where no refusal was met, else the refusal's.
     pub fn number(self) -> u32
-        ensures { result ≡ number_of self }
+        ensures { result ≡ finish_number self }
     {
         match self.refusal {
             None => 0,

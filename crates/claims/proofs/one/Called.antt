@@ -11,7 +11,7 @@ use native.Mathlib.Omega.{arith}
 use lib.ListN.{length, take, replicate}
 use lib.Ieee.{Float}
 use Rattle.std.specs.Prelude.{Ok}
-use Rattle.claims.specs.Words.{zero64, Refusal, refusal_number, NoneOf, Decides, GwrKernel, weight_of, GwrBandwidth, GwrOptions, Setup, setup_of, Data, solve_location, deviation, corrected_aic, rounded, from_count, root, finish_of, real_of, kernel_of, named_kernel, options_of, named, AfterCall, numbers_of, call_tests, placed_rows, answer_bytes, numbers_fit, fit_bytes, weight_tests, refused_weight, given_weight, weight_bytes, rows_of}
+use Rattle.claims.specs.Words.{zero64, Refusal, refusal_number, NoneOf, Decides, GwrKernel, weight_of, GwrBandwidth, GwrOptions, Setup, setup_of, Data, solve_location, deviation, corrected_aic, rounded, from_count, root, finish_of, real_of, kernel_of, named_kernel, options_of, named, AfterCall, numbers_of, call_tests, placed_rows, answer_bytes, numbers_fit, fit_bytes, weight_tests, refused_weight, given_weight, weight_bytes, rows_written}
 use Rattle.claims.proofs.Laws.{either, AtFit, OutcomeBy, call_decides, weight_decides, call_passed, call_untouched, weight_known}
 use lib.Ieee.Scale.{finite}
 use Rattle.claims.specs.DemandOne.{FitAnswered, BytesServed}
@@ -81,7 +81,7 @@ module _ (coords x y : List ℕ) (p kernel kind bandwidth : ℕ) (out summary : 
         numbers = job;
         placed_in = e;
         number =
-            subst⁻¹ (λ (z : AfterCall). Numbered z.0) e (answer_in f.0 (take (rows_of f.0 * (p + 4)) f.1) out summary (made_so f.0 job (λ g q. answer_said _ d _ _ _ _ (λ i l. weighs i l _) q.answered)));
+            subst⁻¹ (λ (z : AfterCall). Numbered z.0) e (answer_in f.0 (take (rows_written f.0 * (p + 4)) f.1) out summary (made_so f.0 job (λ g q. answer_said _ d _ _ _ _ (λ i l. weighs i l _) q.answered)));
         untouched = t.rows;
         summary_untouched = t.sums;
         long = t.long;

@@ -8,7 +8,7 @@ use Prim.Native.Nat.{ℕ, ◌+◌, ◌≤◌}
 use native.Mathlib.Omega.{arith}
 use lib.ListN.{length}
 use lib.Ieee.{Float}
-use Rattle.claims.specs.Words.{GwrBandwidth, Setup, Data, Bracket, no_bracket, Plan, Sweep, fit_all_locations, solves_of, ending_at, ending_of, finish_of, optimize_bandwidth, Fit, final_of, fitted, rows_of, sought_of, planned, Final, step_of, is_over, start_job, steps, answer_at}
+use Rattle.claims.specs.Words.{GwrBandwidth, Setup, Data, Bracket, no_bracket, Plan, Sweep, fit_all_locations, solves_of, ending_at, ending_of, finish_of, optimize_bandwidth, Fit, final_of, fitted, rows_written, sought_of, planned, Final, step_of, is_over, start_job, steps, answer_at}
 use Rattle.claims.proofs.Laws.{ReachedAt, sweep_reached, stopped_at, reached_few}
 use Rattle.plan.specs.declared.Plan.TheVariants as plan
 use Rattle.claims.specs.Written.{rows_ended, written_rows}
@@ -44,9 +44,9 @@ module _ (u : Setup) (d : Data) where
     pub over : is_over end ≡ true
     pub said : answer_at end.0.stage end.0 ≡ ended_with f.0
     pub rows : end.1 ≡ f.1
-    pub wrote : written_rows end.0 ≡ rows_of f.0
-    pub least : c + rows_of f.0 ≤ count_of f.0
-    pub most : count_of f.0 ≤ c + rows_of f.0 + 1
+    pub wrote : written_rows end.0 ≡ rows_written f.0
+    pub least : c + rows_written f.0 ≤ count_of f.0
+    pub most : count_of f.0 ≤ c + rows_written f.0 + 1
     pub final : let s = steps (step_of d) c begun in (s.0.stage ≡ Final) × (s.0.sweep.location ≡ 0)
     pub bandwidth : end.0.bandwidth ≡ b
     pub trials : end.0.trials.made ≡ m
