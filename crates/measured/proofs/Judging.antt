@@ -10,7 +10,7 @@ use Rattle.setup.specs.declared.GwrCriterion.{GwrCriterion}
 use Rattle.setup.specs.declared.GwrOptions.{GwrOptions}
 use Rattle.setup.specs.Data.{Data}
 use Rattle.setup.specs.Options.{judged_by}
-use Rattle.sweep.specs.Finish.{number_of}
+use Rattle.sweep.specs.Finish.{finish_number}
 use Rattle.gwr.specs.declared.Fit.{Fit}
 use Rattle.gwr.specs.Fit.{gwr_fit}
 use Rattle.request.specs.Options.{options_of}
@@ -22,7 +22,7 @@ module _ (reals : List Float) (counts : List ℕ) where
   pub seen_rejected : {a : Result Fit Refusal} {r : Refusal} {n : ℕ} → a ≡ Err r → n ≡ refusal_number r → ◌≡◌ {A = Seen} (n, (reals, counts)) (seen_of a reals counts)
   seen_rejected e h = ap (λ (n : ℕ). (n, (reals, counts))) h ∙ ap (λ (a : Result Fit Refusal). seen_of a reals counts) (sym e)
 
-  pub seen_made : {a : Result Fit Refusal} {f : Fit} {n : ℕ} {seen : Seen} → a ≡ Ok f → n ≡ number_of f.finish → seen ≡ told_of n f.finish.summary f.rows reals counts → seen ≡ seen_of a reals counts
+  pub seen_made : {a : Result Fit Refusal} {f : Fit} {n : ℕ} {seen : Seen} → a ≡ Ok f → n ≡ finish_number f.finish → seen ≡ told_of n f.finish.summary f.rows reals counts → seen ≡ seen_of a reals counts
   seen_made {f = f} e h i = i ∙ ap (λ (n : ℕ). told_of n f.finish.summary f.rows reals counts) h ∙ ap (λ (a : Result Fit Refusal). seen_of a reals counts) (sym e)
 
 -- ---- a fit

@@ -8,7 +8,7 @@ use Rattle.setup.specs.declared.GwrCriterion.TheVariants.{Unguarded, Guarded}
 use Rattle.setup.specs.Data.{Data}
 use Rattle.setup.specs.Options.{judged_by}
 use Rattle.criterion.specs.declared.Summary.{Summary}
-use Rattle.sweep.specs.Finish.{number_of}
+use Rattle.sweep.specs.Finish.{finish_number}
 use Rattle.gwr.specs.declared.Fit.{Fit}
 use Rattle.gwr.specs.Fit.{gwr_fit}
 use Rattle.request.specs.Options.{options_of}
@@ -26,7 +26,7 @@ told_of number s rows reals counts = (number, (set (set reals 0 s.bandwidth) 1 s
 
 -- a refusal from the input leaves both as they are
 abbrev pub seen_of : Result Fit Refusal → List Float → List ℕ → Seen
-seen_of (Ok f) reals counts = told_of (number_of f.finish) f.finish.summary f.rows reals counts
+seen_of (Ok f) reals counts = told_of (finish_number f.finish) f.finish.summary f.rows reals counts
 seen_of (Err r) reals counts = (refusal_number r, (reals, counts))
 
 -- of a fit and its output, the output last
