@@ -15,6 +15,7 @@ pub fn greatest_distance(coords: &[f64], n: usize) -> f64
 {
     let (pantries, _) = coords.as_chunks::<2>();
     let mut most = 0.0;
+    // An index: each pantry is held against those behind it.
     for i in 0..n {
         let here = Place {
             east: pantries[i][0],

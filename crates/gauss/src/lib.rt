@@ -104,6 +104,7 @@ pub fn eliminate(mut a: [[f64; 16]; 8], n: usize, m: usize) -> Option<[[f64; 16]
     requires { (n ≤ 8) × (m ≤ 16) }
     ensures { result ≡ eliminated a n m }
 {
+    // An index: step i is about row and column i.
     for i in 0..n {
         let p = find_pivot(&a, i, n);
         if p.val < 1e-12 {

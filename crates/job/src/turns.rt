@@ -71,6 +71,7 @@ fn run(j: Job, problem: &Problem<'_>, out: &mut [f64], allowance: u32) -> Turned
     ensures { (result, out.new) ≡ run_of j problem.now.columns out.old allowance }
 {
     let mut k = j;
+    // Counted, not indexed: how many steps were made is told.
     for made in 0..allowance {
         if k.stage.is_ended() {
             return tell(k, made);

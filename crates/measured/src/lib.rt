@@ -45,6 +45,7 @@ pub extern "C" fn zescolumba_exponentials(values: &mut [f64])
     mapped::exponentials(values);
 }
 
+// A number that the C interface has; unlike that of a byte call it refuses none.
 #[tactic(auto, unfolding(crate::specs::Turns::kernel_by))]
 fn kernel_by(number: u32) -> GwrKernel
     ensures { result ≡ kernel_by number }
@@ -61,6 +62,7 @@ fn play(j: Job, columns: &Columns<'_>, out: &mut [f64], allowance: u32, turns: u
     ensures { (result, out.new) ≡ play_of columns.now allowance turns (j, out.old) }
 {
     let mut k = j;
+    // Counted: nothing is indexed.
     for i in 0..turns {
         k = job::turn(k, columns, &mut *out, allowance).job;
     }

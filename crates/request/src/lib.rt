@@ -11,7 +11,7 @@ use kernel::GwrKernel;
 use refusal::Refusal;
 use setup::{GwrBandwidth, GwrOptions};
 
-// Kind 0 is a distance and 1 a count; 2 and 3 are the same, searched.
+// Kind 0 is a distance and 1 a count; 2 and 3 are the same, searched. A number, as it crosses the C interface.
 #[tactic(auto, unfolding(crate::specs::Options::kind_of))]
 fn kind_of(kernel: GwrKernel, kind: u64, bandwidth: u64) -> Result<GwrOptions, Refusal>
     ensures { result ≡ kind_of kernel kind bandwidth }

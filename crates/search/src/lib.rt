@@ -27,6 +27,7 @@ pub struct Tried {
 #[derive(Clone, Copy)]
 pub struct Search {
     pub bracket: Bracket,
+    // A flag: 000's search goes on while it is not set, and so does its definition.
     pub over: bool,
     pub solves: u64,
 }

@@ -54,6 +54,7 @@ fn golden_section_min(problem: &Problem<'_>, lo: f64, hi: f64) -> Search
     let mut tried = [None; 102];
     let g = Bracket::start(lo, hi);
     let mut s = opened_of(problem, g, &mut tried);
+    // Counted: r is the number of the round, of which the contract of `round_of` speaks.
     for r in 0..100usize {
         s = round_of(s, problem, r, &mut tried);
         if s.over {

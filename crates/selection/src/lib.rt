@@ -86,6 +86,7 @@ fn narrow(s: &[f64], m: usize, from: Bracket) -> Bracket
 {
     let rank = real::from_count(m) + 0.5;
     let mut b = from;
+    // Counted: t says which cut, every third in the middle.
     for t in 0..16u64 {
         let at = part(b, rank, t);
         let c = fewer(s, at);
@@ -148,6 +149,7 @@ pub fn select(s: &[f64], m: usize, otherwise: f64) -> f64
         return otherwise;
     }
     let mut b = whole(s.len(), otherwise);
+    // Counted: so many times, ended by the first that is found.
     for t in 0..8u64 {
         b = narrow(s, m, b);
         let v = greatest_below(s, b.hi);

@@ -109,6 +109,7 @@ pub fn fit_all_locations(
 {
     let u = problem.setup();
     let mut sweep = Sweep::new();
+    // An index: location i is solved, and its row is the i-th.
     for i in 0..u.n {
         let outcome = local::solve_location(problem, b, i);
         write_row(&mut *out, rows, u, i, outcome);

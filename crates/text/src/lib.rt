@@ -136,13 +136,14 @@ impl Text<'_> {
         ensures written { WrittenText self.old.bytes.now self.old.len (row_lines 0 (rows_of out.now width n)) self.new.bytes.now self.new.len }
         ensures short { self.new.len ≤ self.old.len + 198 * n }
     {
+        // An index: the line has it, and the numbers of row i begin at i * width.
         for i in 0..n {
             self.row(out, i, width);
         }
     }
 }
 
-// A refusal's line; answers where the text ends.
+// A refusal's line; answers where the text ends. The number, since text stands below refusals.
 pub fn put_refused(text: &mut [u8], number: u32) -> usize
     requires { (11 ≤ length text.old) × (number < 1000000) }
     ensures { WrittenText text.old 0 (refused_line number) text.new result }

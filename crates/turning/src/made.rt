@@ -33,7 +33,7 @@ pub fn draw(s: u64, k: u64) -> u64
     s / 65536 % k
 }
 
-// A value: whole numbers 0 to 2, huge numbers, or tenths up to 100.
+// A value: whole numbers 0 to 2, huge numbers, or tenths up to 100. By a number, which a seed draws.
 fn value(s: u64, style: u64) -> f64 {
     let v = (draw(s, 1000) as u32) as f64 / 10.0;
     match style {

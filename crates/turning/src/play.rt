@@ -89,6 +89,7 @@ fn play_lists(b: Begun<'_>, seed: u64, t: &mut Tally)
     requires { seed < 2 ^ 31 }
 {
     let mut at = seed;
+    // Counted: nothing is indexed.
     for k in 0..4u32 {
         at = made::next_seed(at);
         play_list(b, at, &mut *t);
@@ -106,6 +107,7 @@ fn play_list(b: Begun<'_>, seed: u64, t: &mut Tally)
     let mut beside = [0.5; 100];
     let mut steps = 0u32;
     t.listed();
+    // Counted: k is the number of the turn.
     for k in 0..40u32 {
         at = made::next_seed(at);
         let given = lend::give_turn(played, b.columns, &mut out, at, k, b.spoils);
@@ -127,6 +129,7 @@ fn play_list(b: Begun<'_>, seed: u64, t: &mut Tally)
 // The record after so many turns of one step.
 fn follow(j: Job, columns: &Columns<'_>, out: &mut [f64], steps: u32) -> Job {
     let mut at = j;
+    // Counted: nothing is indexed.
     for k in 0..steps {
         at = job::turn(at, columns, &mut *out, 1).job;
     }
