@@ -1,5 +1,5 @@
 -- The fit call's parts, one law for each arm of the code.
-use Rattle.std.specs.Prelude.{Result, Ok, IfOk}
+use Rattle.std.specs.Prelude.{Result, Ok, Err, IfOk}
 use mathlib.Core.Path.{◌≡◌, refl, sym, ap, subst, ◌∙◌}
 use mathlib.Core.Bool.{Bool, true, false, cond}
 use mathlib.Core.List.{List}
@@ -14,16 +14,23 @@ use Rattle.real.specs.Reals.{zero64, one64}
 use Rattle.wire.specs.Wire.{reals, real_bytes, placed}
 use Rattle.wire.proofs.Decoding.{length_reals}
 use Rattle.refusal.specs.declared.Refusal.{Refusal}
+use Rattle.refusal.specs.Numbers.{refusal_number}
 use Rattle.setup.specs.declared.GwrOptions.{GwrOptions}
 use Rattle.setup.specs.Data.{Data, trusted_data}
 use Rattle.sweep.specs.Finish.{finish_number}
 use Rattle.gwr.specs.declared.Fit.{Fit}
 use Rattle.gwr.specs.Fit.{gwr_fit, rows_written}
-use Rattle.calls.specs.Calls.{AfterCall, numbers_of, placed_rows, fitted_bytes, fit_parts, room_of, summary_bytes, Offered}
+use Rattle.calls.specs.Calls.{AfterCall, numbers_of, placed_rows, answer_bytes, fitted_bytes, fit_parts, room_of, summary_bytes, Offered}
 use Rattle.gwr.proofs.Bounds.{Made, Fits, fits}
 
 pub triple : {n m : ℕ} {a b c d : List ℕ} → n ≡ m → a ≡ b → c ≡ d → ◌≡◌ {A = AfterCall} (n, (a, c)) (m, (b, d))
 triple p q r = cc
+
+-- ---- an answer's bytes where the input was refused
+
+module _ (a : Result Fit Refusal) (rows : List Float) (out summary : List ℕ) where
+  pub answer_rejected : (r : Refusal) (n : ℕ) → a ≡ Err r → n ≡ refusal_number r → ◌≡◌ {A = AfterCall} (n, (out, summary)) (answer_bytes a rows out summary)
+  answer_rejected r n e i = triple i refl refl ∙ sym (ap (λ (z : Result Fit Refusal). answer_bytes z rows out summary) e)
 
 -- ---- the room of a fit: at most what the output's bytes allow, and none without the summary's
 

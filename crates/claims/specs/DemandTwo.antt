@@ -6,8 +6,8 @@ use mathlib.Core.List.{List, [], ◌∷◌, Permᴰ}
 use Rattle.std.specs.Float.{nan, inf, fin, binary64}
 use Rattle.std.specs.Float.Ieee.{mul, neg, lt, le, eq, fits, is_nan, to_bits}
 use Rattle.std.specs.Float.Ieee.Scale.{finite}
-use Rattle.claims.specs.Words.{zero64, one64, eps64, least_normal, inf64, from_count, Fraction, fraction, fraction_of, Once, OnceBy, Arithmetic, rounded, exact, root, NearestRoot, floor708, exp_k, expv, lnv, LnFinite, SplitAs, DeviationNotFinite, GwrKernel, Gaussian, Bisquare, Exponential, unusable, weight_of, FromZeroToOne, kernel_formula, exact_weight, power_of_e, plain_weight, NoneOf, GwrBandwidth, AdaptiveKnn, Setup, Data, under, setup_of, Sized, ceil_root, LeastRoot, resolve_count, between, nearest_of, all_distances, met_distances, Ascending, kth_nearest, weights_at, ExactFit, Solves, deviation, freedom, aicc_published, aicc_formula, pi64, exhausted, corrected_aic, Bracket, inv_phi, inv_phi2, G, G2, start_of, goes_left, narrow_of, Span, Inside, Framed, KieferRound, Narrowed, tried_of, played_of, SearchInside, Valley, ScoredBy, Follows, GwrCriterion, Unguarded, Guarded, GwrOptions, options_of, named, bandwidth_at, fit_tests, accept_of, trial_of, golden_section_min, final_of, gwr_fit, fitted, Coefficients}
-use Rattle.claims.specs.Words.{NearPowerSeries, WeightSumNotPositive, trusted_weight, data_of, trusting, solve_location, Job, begin_of, turn_of}
+use Rattle.claims.specs.Words.{zero64, one64, eps64, least_normal, inf64, from_count, Fraction, fraction, fraction_of, Once, OnceBy, Arithmetic, rounded, exact, root, NearestRoot, floor708, exp_k, expv, lnv, LnFinite, SplitAs, DeviationNotFinite, GwrKernel, Gaussian, Bisquare, Exponential, unusable, weight_of, FromZeroToOne, kernel_formula, exact_weight, power_of_e, plain_weight, NoneOf, GwrBandwidth, AdaptiveKnn, Setup, Data, under, setup_of, Sized, ceil_root, LeastRoot, resolve_count, between, nearest_of, all_distances, met_distances, Ascending, kth_nearest, weights_at, Solves, deviation, freedom, aicc_published, aicc_formula, pi64, exhausted, corrected_aic, Bracket, inv_phi, inv_phi2, G, G2, start_of, goes_left, narrow_of, Span, Inside, Framed, KieferRound, Narrowed, tried_of, played_of, SearchInside, Valley, ScoredBy, Follows, GwrCriterion, Unguarded, Guarded, GwrOptions, options_of, named, bandwidth_at, fit_tests, accept_of, trial_of, golden_section_min, final_of, gwr_fit, fitted, Row, Matrix, Exact, equations_of}
+use Rattle.claims.specs.Words.{NearPowerSeries, WeightSumNotPositive, trusted_weight, data_of, trusting, solve_location, Job, begin_of, turn_of, Row, Matrix, Exact, equations_of}
 use Rattle.golden.specs.Points as points
 use Rattle.plan.specs.declared.Plan.TheVariants as plan
 
@@ -57,7 +57,7 @@ pub record DemandTwo : Type 1 where
   -- ---- the local solve: Fotheringham, Brunsdon and Charlton 2002
 
   -- where nothing was rounded, the coefficients solve (XᵀWX) β = XᵀWy
-  pub normal_equations : (u : Setup) (d : Data) (w : List Float) (sum : Float) (c : Coefficients) → ExactFit u d w sum c → Solves u d w c.beta
+  pub normal_equations : (u : Setup) (d : Data) (w : Row) (a : Matrix) (beta : Row) → Exact u d w (equations_of u d w) a beta → Solves u d w beta
   -- ---- the square root: IEEE 754, nearest, ties to the even last bit
 
   -- of a positive finite number every other binary64 lies farther from the exact root, so that no tie occurs

@@ -47,7 +47,7 @@ unfoldable pub use Rattle.normal.specs.Equations.{normal_step, equations_of}
 pub use Rattle.estimate.specs.declared.Coefficients.{Coefficients}
 unfoldable pub use Rattle.estimate.specs.Estimate.{coefficients_of, coefficients_finite, from_inverse, eliminated_of, from_eliminated, coefficients_under, fit_coefficients}
 unfoldable pub use Rattle.estimate.specs.Inverse.{inverse_finite, inverse_cell}
-pub use Rattle.estimate.specs.NormalEquations.{ExactFit, Solves}
+pub use Rattle.estimate.specs.NormalEquations.{Exact, Solves}
 unfoldable pub use Rattle.evaluate.specs.Evaluate.{squares_step, sum_squares, local_r_squared, values_at}
 pub use Rattle.evaluate.specs.declared.Values.{Values}
 unfoldable pub use Rattle.row.specs.Row.{put_row, row_of}
