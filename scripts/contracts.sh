@@ -4,7 +4,8 @@
 set -u
 cd "$(dirname "$0")/.." || exit 2
 
-# found: each function with no `ensures` before its body, as 'crate::module function'.
+# found: each function with no `ensures` before its body, as 'crate::module function', but for those of a trait whose law, which the
+# impl states (`ghost from_gives = ..`), says what they give.
 found() {
     find crates -path '*/src/*.rt' ! -path '*/out/*' | while read -r file; do
         module=${file#crates/}
@@ -14,9 +15,10 @@ found() {
         awk -v module="${module%::main}" '
             function flush() { if (name != "" && !told) print module, name; name = ""; told = 0 }
             { sub(/\/\/.*/, "") }
-            /^impl / { flush(); type = $2 "::" }
-            /^}/ { type = "" }
-            match($0, /(^|[ \t])fn [A-Za-z0-9_]+/) { flush(); name = substr($0, RSTART, RLENGTH); sub(/.*fn /, type, name) }
+            /^impl/ { flush(); type = $0; sub(/^impl(<[^>]*>)? /, "", type); sub(/.* for /, "", type); sub(/[ <{].*/, "::", type) }
+            /^}/ { type = ""; promised = 0 }
+            /^ *ghost [A-Za-z0-9_]+ = / { promised = 1 }
+            match($0, /(^|[ \t])fn [A-Za-z0-9_]+/) { flush(); told = promised; name = substr($0, RSTART, RLENGTH); sub(/.*fn /, type, name) }
             /(^|[^A-Za-z0-9_])ensures([^A-Za-z0-9_]|$)/ { told = 1 }
             END { flush() }' "$file"
     done | sort

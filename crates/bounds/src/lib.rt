@@ -3,41 +3,37 @@
 
 ghost use Rattle.std.specs.Prelude.{◌≡◌, ◌*◌, ◌≤◌, ◌<◌, length};
 ghost use Rattle.setup.specs.Shape.{Sized};
-ghost use Rattle.bounds.specs.Bounds.{farther_from, greatest_distance, least_distance, usable_distance, least_count, greatest_count, bandwidth_at};
+ghost use Rattle.bounds.specs.Bounds.{greatest_distance, least_distance, usable_distance, least_count, greatest_count, bandwidth_at};
 
+use kernel::Place;
 use setup::{GwrBandwidth, Setup};
-
-// The greatest distance from pantry i to those after it, and `before`.
-fn farther_from(coords: &[f64], n: usize, i: usize, before: f64) -> f64
-    requires { (length coords.now ≡ 2 * n) × (i < n) × (n ≤ 512) }
-    ensures { result ≡ farther_from coords.now n i before }
-{
-    let mut most = before;
-    for j in i + 1..n {
-        let d = kernel::distance(
-            coords[2 * i],
-            coords[2 * i + 1],
-            coords[2 * j],
-            coords[2 * j + 1],
-        );
-        most = real::max(most, d);
-    }
-    most
-}
 
 // The greatest distance between two pantries, 0 where there is no pair.
 pub fn greatest_distance(coords: &[f64], n: usize) -> f64
     requires { (length coords.now ≡ 2 * n) × (n ≤ 512) }
     ensures { result ≡ greatest_distance coords.now n }
 {
+    let (pantries, _) = coords.as_chunks::<2>();
     let mut most = 0.0;
+    // An index: each pantry is held against those behind it.
     for i in 0..n {
-        most = farther_from(coords, n, i, most);
+        let here = Place {
+            east: pantries[i][0],
+            north: pantries[i][1],
+        };
+        for there in &pantries[i + 1..] {
+            let there = Place {
+                east: there[0],
+                north: there[1],
+            };
+            most = real::max(most, here.distance(there));
+        }
     }
     most
 }
 
 // The least distance that a search tries, where hi is the greatest.
+#[tactic(auto, unfolding(crate::specs::Bounds::least_distance))]
 pub fn least_distance(hi: f64, n: usize) -> f64
     requires { n ≤ 512 }
     ensures { result ≡ least_distance hi n }
@@ -47,13 +43,11 @@ pub fn least_distance(hi: f64, n: usize) -> f64
 }
 
 // Whether a distance can be a bandwidth: it is finite and above zero.
+#[tactic(auto, using(real::proofs::Std::finite_same), unfolding(crate::specs::Bounds::usable_distance))]
 pub fn usable_distance(b: f64) -> bool
     ensures { result ≡ usable_distance b }
 {
-    if real::is_finite(b) {
-        return b > 0.0;
-    }
-    false
+    b.is_finite() & (b > 0.0)
 }
 
 // The least count that a search tries: max(p + 1, 2).
@@ -61,7 +55,7 @@ pub fn least_count(p: usize) -> usize
     requires { p ≤ 7 }
     ensures { result ≡ least_count p }
 {
-    real::max_count(p + 1, 2)
+    (p + 1).max(2)
 }
 
 // The greatest count that a search tries: max(n - 1, L).
@@ -69,18 +63,16 @@ pub fn greatest_count(n: usize, p: usize) -> usize
     requires { (1 ≤ n) × (n ≤ 512) × (p ≤ 7) }
     ensures { result ≡ greatest_count n p }
 {
-    let least = least_count(p);
-    real::max_count(n - 1, least)
+    (n - 1).max(least_count(p))
 }
 
 // The bandwidth at a point of the search, of the options' kind.
+#[tactic(auto, unfolding(crate::specs::Bounds::bandwidth_at, crate::specs::Bounds::point_of))]
 pub fn bandwidth_at(u: Setup, point: f64) -> GwrBandwidth
     requires { Sized u }
     ensures { result ≡ bandwidth_at u point }
 {
-    let options = u.options;
-    let kind = options.bandwidth;
-    match kind {
+    match u.options.bandwidth {
         GwrBandwidth::Fixed(_) => GwrBandwidth::Fixed(point),
         GwrBandwidth::AdaptiveKnn(_) => {
             let least = least_count(u.p);

@@ -1,4 +1,5 @@
 -- The fit call's parts, one law for each arm of the code.
+use Rattle.std.specs.Prelude.{Result, Ok, Err, IfOk}
 use mathlib.Core.Path.{◌≡◌, refl, sym, ap, subst, ◌∙◌}
 use mathlib.Core.Bool.{Bool, true, false, cond}
 use mathlib.Core.List.{List}
@@ -11,44 +12,25 @@ use lib.ListN.{length, take, replicate}
 use lib.Ieee.{Float}
 use Rattle.real.specs.Reals.{zero64, one64}
 use Rattle.wire.specs.Wire.{reals, real_bytes, placed}
+use Rattle.wire.proofs.Decoding.{length_reals}
 use Rattle.refusal.specs.declared.Refusal.{Refusal}
 use Rattle.refusal.specs.Numbers.{refusal_number}
-use Rattle.criterion.specs.declared.Summary.{Summary}
 use Rattle.setup.specs.declared.GwrOptions.{GwrOptions}
-use Rattle.setup.specs.Data.{Data, trusted_data, trusting}
-use Rattle.sweep.specs.declared.Finish.{Finish}
-use Rattle.sweep.specs.declared.Finish.TheVariants.{Fitted, Failed}
-use Rattle.gwr.specs.declared.FitAnswer.{FitAnswer}
-use Rattle.gwr.specs.declared.FitAnswer.TheVariants.{Done, Rejected}
+use Rattle.setup.specs.Data.{Data, trusted_data}
+use Rattle.sweep.specs.Finish.{finish_number}
 use Rattle.gwr.specs.declared.Fit.{Fit}
-use Rattle.gwr.specs.Fit.{gwr_fit}
-use Rattle.calls.specs.Calls.{AfterCall, placed_rows, answer_bytes, fitted_bytes, fit_parts, room_of, summary_bytes, Writable, Roomy, Offered}
-use Rattle.gwr.proofs.Bounds.{Sound, Fits, fits}
+use Rattle.gwr.specs.Fit.{gwr_fit, rows_written}
+use Rattle.calls.specs.Calls.{AfterCall, numbers_of, placed_rows, answer_bytes, fitted_bytes, fit_parts, room_of, summary_bytes, Offered}
+use Rattle.gwr.proofs.Bounds.{Made, Fits, fits}
 
 pub triple : {n m : ℕ} {a b c d : List ℕ} → n ≡ m → a ≡ b → c ≡ d → ◌≡◌ {A = AfterCall} (n, (a, c)) (m, (b, d))
 triple p q r = cc
 
--- ---- an answer's bytes
+-- ---- an answer's bytes where the input was refused
 
-module _ (a : FitAnswer) (rows : List Float) (out summary : List ℕ) where
-  abbrev after : FitAnswer → AfterCall
-  after z = answer_bytes z rows out summary
-
-  pub answer_rejected : (r : Refusal) (n : ℕ) → a ≡ Rejected r → n ≡ refusal_number r → ◌≡◌ {A = AfterCall} (n, (out, summary)) (after a)
-  answer_rejected r n e i = triple i refl refl ∙ sym (ap (λ (z : FitAnswer). after z) e)
-
-  -- a fit that was made
-  module _ (f : Finish) (v : Summary) (out' summary' : List ℕ) (done : a ≡ Done f) (o : out' ≡ placed out 0 (real_bytes rows)) (s : summary' ≡ placed summary 0 (summary_bytes v)) where
-    pub answer_failed : (r : Refusal) (n : ℕ) → f ≡ Failed r v → n ≡ refusal_number r → ◌≡◌ {A = AfterCall} (n, (out', summary')) (after a)
-    unfolding placed_rows
-    answer_failed r n e i = triple i o s ∙ sym (ap (λ (z : FitAnswer). after z) (done ∙ ap (λ (g : Finish). Done g) e))
-
-    pub answer_fitted : f ≡ Fitted v → ◌≡◌ {A = AfterCall} (0, (out', summary')) (after a)
-    unfolding placed_rows
-    answer_fitted e = triple refl o s ∙ sym (ap (λ (z : FitAnswer). after z) (done ∙ ap (λ (g : Finish). Done g) e))
-
-pub answer_writable : (a : FitAnswer) (f : Finish) (count rows out summary : ℕ) → a ≡ Done f → Roomy a count rows out summary → Writable count rows out summary
-answer_writable a f count rows out summary e h = subst (λ (z : FitAnswer). Roomy z count rows out summary) e h
+module _ (a : Result Fit Refusal) (rows : List Float) (out summary : List ℕ) where
+  pub answer_rejected : (r : Refusal) (n : ℕ) → a ≡ Err r → n ≡ refusal_number r → ◌≡◌ {A = AfterCall} (n, (out, summary)) (answer_bytes a rows out summary)
+  answer_rejected r n e i = triple i refl refl ∙ sym (ap (λ (z : Result Fit Refusal). answer_bytes z rows out summary) e)
 
 -- ---- the room of a fit: at most what the output's bytes allow, and none without the summary's
 
@@ -86,43 +68,44 @@ module _ (n p out summary room : ℕ) (e : room ≡ room_of n p out summary) whe
   offered rows i =
       record { bytes = omega (arith, room_bytes n p out summary, e, i); whole = λ h. room_summary n p out summary (omega (arith, h, e, i)) }
 
--- ---- the fit into an output of which its bytes have room
+-- ---- the bytes after a fit
 
-roomy : (a : FitAnswer) (n r room count rows out summary : ℕ) → Sound a r n room → count ≤ rows → 8 * count ≤ out → (1 ≤ room → 24 ≤ summary) → Roomy a count rows out summary
-roomy (Done (Fitted v)) n r room count rows out summary w h k s = record { there = h; bytes = k; whole = s w.0 }
-roomy (Done (Failed q v)) n r room count rows out summary w h k s = record { there = h; bytes = k; whole = s w.0 }
-roomy (Rejected q) n r room count rows out summary w h k s = tt
+module _ (d : Data) (p : ℕ) (o : GwrOptions) (out : List Float) (z : Result Fit Refusal) (after : List Float) (e : ◌≡◌ {A = Result Fit Refusal × List Float} (z, after) (gwr_fit d p o out)) (bytes summary : List ℕ) where
+  abbrev call : Result Fit Refusal × List Float → AfterCall
+  call g = fitted_bytes p g bytes summary
 
-module _ (d : Data) (p : ℕ) (o : GwrOptions) (out : List Float) (f : Fit) (after : List Float) (e : ◌≡◌ {A = Fit × List Float} (f, after) (gwr_fit d p o out)) where
-  sound : Fits (length d.coords / 2) p (length out) (f, after)
-  sound = subst (λ (g : Fit × List Float). Fits (length d.coords / 2) p (length out) g) (sym e) (fits d p o out)
+  sound : Fits (length d.coords / 2) p (length out) (z, after)
+  sound = subst (λ (g : Result Fit Refusal × List Float). Fits (length d.coords / 2) p (length out) g) (sym e) (fits d p o out)
 
-  pub rows_fit : f.rows * (p + 4) ≤ length out
-  rows_fit = sound.rows
+  -- a fit that was made: its rows are within the output, whose bytes have room, and so has its summary
+  module _ (f : Fit) (made : z ≡ Ok f) where
+    pub rows_fit : f.rows * (p + 4) ≤ length out
+    rows_fit = subst (λ (y : Result Fit Refusal). rows_written y * (p + 4) ≤ length out) made sound.rows
 
-  pub answer_roomy : (rows bytes summary : ℕ) → rows ≡ length out → Offered (length out) bytes summary → Roomy f.answer (f.rows * (p + 4)) rows bytes summary
-  answer_roomy rows bytes summary n r =
-      roomy f.answer (length d.coords / 2) f.rows (length out) (f.rows * (p + 4)) rows bytes summary sound.sound (omega (arith, sound.rows, n)) (omega (arith, sound.rows, r.bytes)) r.whole
+    pub rows_long : length after ≡ length out
+    rows_long = sound.long
 
-  pub fitted_is : (bytes summary : List ℕ) (a : AfterCall) → a ≡ answer_bytes f.answer (take (f.rows * (p + 4)) after) bytes summary → a ≡ fitted_bytes p (gwr_fit d p o out) bytes summary
-  fitted_is bytes summary a h = h ∙ ap (λ (g : Fit × List Float). fitted_bytes p g bytes summary) e
+    pub fit_some : 1 ≤ length out
+    fit_some = (subst (λ (y : Result Fit Refusal). IfOk y (λ g. Made (length d.coords / 2) (length out) g)) made sound.sound).some
 
--- every trust set to 1
-pub trusting_is : (c' x' y' t : List Float) → t ≡ replicate (length y') one64 → (p : ℕ) (o : GwrOptions) (z : List Float) (out summary : List ℕ) (a : AfterCall)
-    → a ≡ fitted_bytes p (gwr_fit (trusted_data c' x' y' t) p o z) out summary → a ≡ fitted_bytes p (gwr_fit (trusting c' x' y') p o z) out summary
-trusting_is c' x' y' t e p o z out summary a h = h ∙ ap (λ (l : List Float). fitted_bytes p (gwr_fit (trusted_data c' x' y' l) p o z) out summary) e
+    pub fitted_is : (bytes' summary' : List ℕ) (number : ℕ) → bytes' ≡ placed bytes 0 (real_bytes (take (f.rows * (p + 4)) after)) → summary' ≡ placed summary 0 (summary_bytes f.finish.summary)
+        → number ≡ finish_number f.finish → ◌≡◌ {A = AfterCall} (number, (bytes', summary')) (call (gwr_fit d p o out))
+    unfolding placed_rows
+    fitted_is bytes' summary' number b s n = triple n b s ∙ sym (ap (λ (y : Result Fit Refusal). call (y, after)) made) ∙ ap call e
 
 module _ (coords x y : List ℕ) (p : ℕ) (o : GwrOptions) (out summary : List ℕ) where
   abbrev n : ℕ
   n = length coords / 16
 
-  pub parts_is : (c' x' y' z : List Float) (room : ℕ) (a : AfterCall) → c' ≡ reals coords (2 * n) → x' ≡ reals x (n * p) → y' ≡ reals y n → z ≡ replicate room zero64
-      → room ≡ room_of n p (length out) (length summary) → a ≡ fitted_bytes p (gwr_fit (trusting c' x' y') p o z) out summary → a ≡ fit_parts coords x y p o out summary
+  abbrev at : Data → List Float → AfterCall
+  at d z = fitted_bytes p (gwr_fit d p o z) out summary
+
+  -- numbers decoded, every trust set to 1
+  numbers_are : (c' x' y' t : List Float) → c' ≡ reals coords (2 * n) → x' ≡ reals x (n * p) → y' ≡ reals y n → t ≡ replicate n one64 → trusted_data c' x' y' t ≡ numbers_of coords x y p
+  numbers_are c' x' y' t ec ex ey et = let one : t ≡ replicate (length (reals y n)) one64 = et ∙ sym (ap (λ (k : ℕ). replicate k one64) (length_reals y n)) in cc
+
+  pub parts_is : (c' x' y' t z : List Float) (room : ℕ) (a : AfterCall) → c' ≡ reals coords (2 * n) → x' ≡ reals x (n * p) → y' ≡ reals y n → t ≡ replicate n one64 → z ≡ replicate room zero64
+      → room ≡ room_of n p (length out) (length summary) → a ≡ at (trusted_data c' x' y' t) z → a ≡ fit_parts coords x y p o out summary
   unfolding fit_parts
-  parts_is c' x' y' z room a ec ex ey ez er h =
-      h
-      ∙ ap (λ (l : List Float). fitted_bytes p (gwr_fit (trusting l x' y') p o z) out summary) ec
-      ∙ ap (λ (l : List Float). fitted_bytes p (gwr_fit (trusting (reals coords (2 * n)) l y') p o z) out summary) ex
-      ∙ ap (λ (l : List Float). fitted_bytes p (gwr_fit (trusting (reals coords (2 * n)) (reals x (n * p)) l) p o z) out summary) ey
-      ∙ ap (λ (l : List Float). fitted_bytes p (gwr_fit (trusting (reals coords (2 * n)) (reals x (n * p)) (reals y n)) p o l) out summary) ez
-      ∙ ap (λ (k : ℕ). fitted_bytes p (gwr_fit (trusting (reals coords (2 * n)) (reals x (n * p)) (reals y n)) p o (replicate k zero64)) out summary) er
+  parts_is c' x' y' t z room a ec ex ey et ez er h =
+      h ∙ ap (λ (d : Data). at d z) (numbers_are c' x' y' t ec ex ey et) ∙ ap (at (numbers_of coords x y p)) (ez ∙ ap (λ (k : ℕ). replicate k zero64) er)

@@ -3,14 +3,13 @@ use mathlib.Core.Path.{◌≡◌, refl, sym, ap, ◌∙◌}
 use mathlib.Core.List.{List, ◌∷◌, ◌++◌, append_assoc}
 use Prim.Native.Nat.{ℕ, zero, suc, ◌+◌, ◌*◌, ◌≤◌}
 use native.Mathlib.Omega.{arith}
-use lib.ListN.{length, take, drop, replicate, length-append, length-replicate, length-take}
-use lib.Seq.{length-take-le, take_at}
+use lib.ListN.{length, take, drop, replicate, length-append, length-replicate}
+use lib.Seq.{length-take-le}
 use lib.Ieee.{Float}
 use Rattle.wire.specs.Wire.{bits_of, bytes_of, real_bytes, reals, placed}
 use Rattle.wire.proofs.Numbers.{length_bytes_of}
 use Rattle.wire.proofs.Placed.{placed_more}
 use Rattle.wire.proofs.Encoding.{length_real_bytes}
-use Rattle.wire.proofs.Decoding.{length_reals}
 use Rattle.criterion.specs.declared.Summary.{Summary}
 use Rattle.calls.specs.Calls.{summary_bytes}
 
@@ -20,12 +19,11 @@ unfolding placed
 at_placed s at v = sym (ap (λ (n : ℕ). take at s ++ (bytes_of v ++ drop (at + n) s)) (length_bytes_of v))
 
 -- rows of reals
-pub rows_placed : (rows : List Float) (count : ℕ) (out : List ℕ) → count ≤ length rows → real_bytes (take count rows) ++ drop (8 * count) out ≡ placed out 0 (real_bytes (take count rows))
+pub rows_placed : (rows : List Float) (out : List ℕ) → real_bytes rows ++ drop (8 * length rows) out ≡ placed out 0 (real_bytes rows)
 unfolding placed
-rows_placed rows count out h =
-    let n : length (real_bytes (take count rows)) ≡ 8 * count = length_real_bytes (take count rows) ∙ ap (λ (k : ℕ). 8 * k) (length-take-le count rows h) in
-    let m : 0 + length (real_bytes (take count rows)) ≡ 8 * count = omega (arith, n) in
-    ap (λ (k : ℕ). real_bytes (take count rows) ++ drop k out) (sym m)
+rows_placed rows out =
+    let n : 0 + length (real_bytes rows) ≡ 8 * length rows = omega (arith, length_real_bytes rows) in
+    ap (λ (k : ℕ). real_bytes rows ++ drop k out) (sym n)
 
 -- three numbers after each other are a summary
 pub summary_placed : (s₀ s₁ s₂ s₃ : List ℕ) (a b : ℕ) (v : Summary) → 24 ≤ length s₀ → a ≡ bits_of v.bandwidth → b ≡ bits_of v.aicc
@@ -61,16 +59,13 @@ take_replicate zero n a h = refl
 take_replicate (suc m) zero a h = absurd (omega (arith, h))
 take_replicate (suc m) (suc n) a h = ap (λ (l : List _). a ∷ l) (take_replicate m n a (omega (arith, h)))
 
--- the numbers that were decoded
-pub decoded : (s : List ℕ) (n : ℕ) (into rest : List Float) → into ≡ reals s n ++ rest → take n into ≡ reals s n
-decoded s n into rest e = ap (take n) e ∙ take_at (reals s n) rest n (length_reals s n)
-
 -- a part of a list is as long as it says
 pub part_long : {A : Type 0} (m k : ℕ) (l : List A) → length l ≡ k → m ≤ k → m ≡ length (take m l)
 part_long m k l e h = sym (length-take-le m l (omega (arith, e, h)))
 
-pub part_few : {A : Type 0} (m k : ℕ) (l : List A) → length l ≡ k → length (take m l) ≤ k
-part_few m k l e = omega (arith, length-take m l, e)
-
 pub zeros_long : {A : Type 0} (m n : ℕ) (a : A) → m ≤ n → m ≡ length (take m (replicate n a))
 zeros_long m n a h = part_long m n (replicate n a) (length-replicate n a) h
+
+-- the numbers that were decoded into a part of zeros
+pub decoded : (s : List ℕ) (n m : ℕ) (z : Float) (into : List Float) → n ≤ m → into ≡ reals s (length (take n (replicate m z))) → into ≡ reals s n
+decoded s n m z into h e = e ∙ ap (reals s) (sym (zeros_long n m z h))

@@ -1,4 +1,6 @@
 -- What the fit call's answer is at most: its number, and the solve count of a fit.
+use Rattle.std.specs.Prelude.{Result, Ok, Err, Option, Some, None, IfOk}
+use Rattle.gwr.specs.declared.Fit.{Fit}
 use mathlib.Core.Path.{◌≡◌, sym, ap, ◌∙◌}
 use mathlib.Core.List.{List, ◌++◌, append_assoc}
 use Prim.Native.Nat.{ℕ, ◌+◌, ◌*◌, ◌/◌, ◌^◌, ◌≤◌, ◌<◌}
@@ -6,6 +8,7 @@ use native.Mathlib.Omega.{arith}
 use lib.ListN.{length, take, drop, replicate, length-append}
 use lib.Seq.{take_all}
 use lib.Ieee.{Float}
+use Rattle.std.specs.Prelude.{Ok, Err}
 use Rattle.real.specs.Reals.{zero64}
 use Rattle.wire.specs.Wire.{bits_of, bytes_of, load_of, placed}
 use Rattle.wire.proofs.Numbers.{length_bytes_of, load_stored}
@@ -13,15 +16,12 @@ use Rattle.refusal.proofs.Range.{most_number, numbered}
 use Rattle.refusal.specs.declared.Refusal.{Refusal}
 use Rattle.criterion.specs.declared.Summary.{Summary}
 use Rattle.setup.specs.declared.GwrOptions.{GwrOptions}
-use Rattle.checks.specs.declared.Check.{Check}
-use Rattle.checks.specs.declared.Check.TheVariants as check
-use Rattle.checks.specs.Judge.{judge, ruled}
-use Rattle.sweep.specs.declared.Finish.TheVariants.{Fitted, Failed}
-use Rattle.gwr.specs.declared.FitAnswer.{FitAnswer}
-use Rattle.gwr.specs.declared.FitAnswer.TheVariants.{Done, Rejected}
+use Rattle.checks.specs.Judge.{Check, judge, ruled}
+use Rattle.sweep.specs.Finish.{number_at}
+use Rattle.gwr.specs.Fit.{rows_written}
 use Rattle.request.specs.Options.{options_of, named}
 use Rattle.calls.specs.Calls.{AfterCall, refused_call, summary_bytes, placed_rows, answer_bytes, fitted_bytes, numbers_of, numbers_fit, call_tests, fit_bytes}
-use Rattle.gwr.proofs.Bounds.{Sound, fits}
+use Rattle.gwr.proofs.Bounds.{Made, fits}
 
 -- the solve count that a summary's bytes hold
 pub summary_solves : (s : List ℕ) (v : Summary) → v.solves < 2 ^ 64 → load_of (placed s 0 (summary_bytes v)) 16 ≡ v.solves
@@ -48,21 +48,25 @@ answered_refused r out summary =
     let k = numbered r in
     record { number = k.most; solves = λ z. absurd (omega (arith, k.some, z)) }
 
-answered_sound : (a : FitAnswer) (done n room : ℕ) (rows : List Float) (out summary : List ℕ) → Sound a done n room → Answered (answer_bytes a rows out summary)
+-- a finish by its refusal
+answered_made : (number : Option Refusal) (rows : List Float) (v : Summary) (out summary : List ℕ) → v.solves ≤ 52736 → Answered (placed_rows (number_at number) rows v out summary)
 unfolding placed_rows
-answered_sound (Done (Fitted v)) done n room rows out summary w =
-    record { number = omega arith; solves = λ z. omega (arith, w.1.0, summary_solves summary v (omega (arith, w.1.0))) }
-answered_sound (Done (Failed r v)) done n room rows out summary w =
+answered_made None rows v out summary few =
+    record { number = omega arith; solves = λ z. omega (arith, few, summary_solves summary v (omega (arith, few))) }
+answered_made (Some r) rows v out summary few =
     let k = numbered r in
     record { number = k.most; solves = λ z. absurd (omega (arith, k.some, z)) }
-answered_sound (Rejected r) done n room rows out summary w = answered_refused r out summary
+
+answered_sound : (a : Result Fit Refusal) (n room : ℕ) (rows : List Float) (out summary : List ℕ) → IfOk a (λ f. Made n room f) → Answered (answer_bytes a rows out summary)
+answered_sound (Ok f) n room rows out summary w = answered_made f.finish.refusal rows f.finish.summary out summary w.few
+answered_sound (Err r) n room rows out summary w = answered_refused r out summary
 
 answered_fit : (coords x y : List ℕ) (p : ℕ) (o : GwrOptions) (out summary : List ℕ) → Answered (fitted_bytes p (numbers_fit coords x y p o) out summary)
 answered_fit coords x y p o out summary =
     let rows : List Float = replicate (length coords / 16 * (p + 4)) zero64 in
     let s = fits (numbers_of coords x y p) p o rows in
     let f = numbers_fit coords x y p o in
-    answered_sound f.0.answer f.0.rows _ (length rows) (take (f.0.rows * (p + 4)) f.1) out summary s.sound
+    answered_sound f.0 _ (length rows) (take (rows_written f.0 * (p + 4)) f.1) out summary s.sound
 
 pub answered : (coords x y : List ℕ) (p kernel kind bandwidth : ℕ) (out summary : List ℕ) → Answered (fit_bytes coords x y p kernel kind bandwidth out summary)
 unfolding fit_bytes ruled
@@ -72,5 +76,5 @@ answered coords x y p kernel kind bandwidth out summary = go (judge (call_tests 
     o = named (options_of kernel kind bandwidth)
 
     go : (k : Check) → Answered (ruled k (λ (r : Refusal). refused_call r out summary) (fitted_bytes p (numbers_fit coords x y p o) out summary))
-    go check.Pass = answered_fit coords x y p o out summary
-    go (check.Refused r) = answered_refused r out summary
+    go (Ok passed) = answered_fit coords x y p o out summary
+    go (Err r) = answered_refused r out summary

@@ -1,4 +1,5 @@
 -- The fit call goes by its list of tests: what the code's ladder does is what the list says.
+use Rattle.std.specs.Prelude.{Result}
 use mathlib.Core.Path.{◌≡◌, refl, sym, ap, ◌∙◌}
 use mathlib.Core.Bool.{Bool, true, false, cond, ◌||◌}
 use mathlib.Core.List.{List, ◌∷◌, ◌++◌, append_assoc}
@@ -9,23 +10,22 @@ use borrow.Author.Tests.{eq-eqb, ne_eqb, lt-ltb, le-ltb}
 use lib.Dec.{ltb}
 use lib.ListN.{length, replicate, length-replicate}
 use lib.Ieee.{Float}
+use Rattle.std.specs.Prelude.{Ok, Err}
 use Rattle.real.specs.Reals.{zero64}
 use Rattle.wire.proofs.Decoding.{length_reals}
 use Rattle.refusal.specs.declared.Refusal.{Refusal}
-use Rattle.refusal.specs.declared.Refusal.TheVariants.{TooFewObservations, OutputTooShort, UnknownNumber}
+use Rattle.refusal.specs.declared.Refusal.TheVariants.{TooFewObservations, OutputTooShort}
 use Rattle.setup.specs.declared.GwrOptions.{GwrOptions}
 use Rattle.setup.specs.Data.{Data, trust_count}
 use Rattle.setup.specs.Shape.{setup_of}
-use Rattle.checks.specs.declared.Check.{Check}
-use Rattle.checks.specs.declared.Check.TheVariants as check
-use Rattle.checks.specs.Judge.{judge, ruled, NoneOf, Decides}
+use Rattle.checks.specs.Judge.{Check, judge, ruled, NoneOf, Decides}
 use Rattle.checks.proofs.Judge.{ruled_append, ruled_refused, ruled_pass, none_head, none_append, decides}
 use Rattle.input.specs.Checks.{shape_tests, value_tests, output_tests, input_tests, option_tests, fit_tests}
 use Rattle.gwr.specs.declared.Fit.{Fit}
 use Rattle.gwr.specs.Fit.{gwr_fit}
-use Rattle.request.specs.declared.Choice.TheVariants as choice
 use Rattle.request.specs.Options.{options_of, named}
 use Rattle.request.proofs.Lengths.{passed}
+use Rattle.request.proofs.Options.{options_refused}
 use Rattle.calls.specs.Calls.{numbers_of, lent_too_short, number_tests, call_tests, AfterCall, refused_call, fitted_bytes, numbers_fit, fit_bytes, room_of, fit_parts}
 use Rattle.request.specs.Lengths.{byte_tests, ByteLengths}
 use Rattle.gwr.proofs.Bounds.{fit_decides}
@@ -121,9 +121,9 @@ module _ (coords x y : List ℕ) (p : ℕ) (out summary : List ℕ) where
       fits = ap (λ (k : ℕ). judge (fit_tests (numbers_of coords x y p) p o k)) (length-replicate room zero64) ∙ fit_judged coords x y p o (length out) (length summary) lengths
 
       go : (k : Check) → judge (rest o) ≡ k → fitted_bytes p (gwr_fit (numbers_of coords x y p) p o (replicate room zero64)) out summary ≡ ruled (judge (rest o)) refuse (given o)
-      go (check.Refused r) e =
-          ap (λ (f : Fit × List Float). fitted_bytes p f out summary) ((fit_decides (numbers_of coords x y p) p o (replicate room zero64)).refused r (fits ∙ e)) ∙ sym (ruled_refused refuse (given o) e)
-      go check.Pass e =
+      go (Err r) e =
+          ap (λ (f : Result Fit Refusal × List Float). fitted_bytes p f out summary) ((fit_decides (numbers_of coords x y p) p o (replicate room zero64)).refused r (fits ∙ e)) ∙ sym (ruled_refused refuse (given o) e)
+      go (Ok passed) e =
           let behind = (none_append (value_tests (numbers_of coords x y p)) _ (none_head _ _ _ e).1).1 in
           let enough = room_enough n p (length out) (length summary) (none_head _ _ _ behind).0 in
           ap (λ (k : ℕ). fitted_bytes p (gwr_fit (numbers_of coords x y p) p o (replicate k zero64)) out summary) enough ∙ sym (ruled_pass refuse (given o) e)
@@ -133,19 +133,19 @@ module _ (coords x y : List ℕ) (p : ℕ) (out summary : List ℕ) where
     call = fit_bytes coords x y p kernel kind bandwidth out summary
 
     -- 18
-    pub call_unknown : options_of kernel kind bandwidth ≡ choice.Unknown → call ≡ refuse UnknownNumber
+    pub call_unknown : {r : Refusal} → options_of kernel kind bandwidth ≡ Err r → call ≡ refuse r
     unfolding fit_bytes call_tests judge ruled
-    call_unknown e = rw e
+    call_unknown e = rw e (ap refuse (sym (options_refused kernel kind bandwidth e)))
 
     -- behind 18
-    call_known : (o : GwrOptions) → options_of kernel kind bandwidth ≡ choice.Known o → call ≡ ruled (judge bytes) refuse (ruled (judge (rest o)) refuse (given o))
+    call_known : (o : GwrOptions) → options_of kernel kind bandwidth ≡ Ok o → call ≡ ruled (judge bytes) refuse (ruled (judge (rest o)) refuse (given o))
     unfolding fit_bytes call_tests judge
     call_known o e = rw e (ruled_append refuse (given o) bytes (rest o))
 
-    pub call_bytes : (o : GwrOptions) (r : Refusal) → options_of kernel kind bandwidth ≡ choice.Known o → judge bytes ≡ check.Refused r → call ≡ refuse r
+    pub call_bytes : (o : GwrOptions) (r : Refusal) → options_of kernel kind bandwidth ≡ Ok o → judge bytes ≡ Err r → call ≡ refuse r
     call_bytes o r e f = call_known o e ∙ ruled_refused refuse _ f
 
-    pub call_parts : (o : GwrOptions) → options_of kernel kind bandwidth ≡ choice.Known o → NoneOf bytes → call ≡ fit_parts coords x y p o out summary
+    pub call_parts : (o : GwrOptions) → options_of kernel kind bandwidth ≡ Ok o → NoneOf bytes → call ≡ fit_parts coords x y p o out summary
     call_parts o e f = call_known o e ∙ ruled_pass refuse _ f ∙ sym (parts_judged o (passed _ _ _ _ f))
 
     -- the call refuses exactly as the list says, and answers the fit of the numbers otherwise

@@ -1,4 +1,5 @@
 -- What holds of a call that no test refuses: the fit's own list refuses nothing either, and no byte behind those written is altered.
+use Rattle.std.specs.Prelude.{Result, Ok, Err}
 use mathlib.Core.Path.{◌≡◌, refl, sym, ap, ◌∙◌}
 use mathlib.Core.Bool.{Bool, true, false, ◌||◌}
 use mathlib.Core.List.{List, ◌++◌}
@@ -21,9 +22,7 @@ use Rattle.criterion.specs.Aicc.{failed_summary}
 use Rattle.checks.specs.Judge.{judge, NoneOf}
 use Rattle.checks.proofs.Judge.{none_head, none_append}
 use Rattle.input.specs.Checks.{value_tests, fit_tests}
-use Rattle.sweep.specs.declared.Finish.TheVariants.{Fitted, Failed}
-use Rattle.gwr.specs.declared.FitAnswer.{FitAnswer}
-use Rattle.gwr.specs.declared.FitAnswer.TheVariants.{Done, Rejected}
+use Rattle.gwr.specs.Fit.{rows_written}
 use Rattle.gwr.specs.declared.Fit.{Fit}
 use Rattle.gwr.proofs.Bounds.{fits}
 use Rattle.request.specs.Options.{options_of, is_unknown, named}
@@ -84,10 +83,9 @@ module _ (rows : List Float) (out summary : List ℕ) (from : ℕ) (front : leng
         long = (length_placed out 0 (real_bytes rows) (omega (arith, front, within)), length_placed summary 0 (summary_bytes v) (omega (arith, t, space)));
       }
 
-  answer_untouched : (a : FitAnswer) → Untouched from out summary (answer_bytes a rows out summary)
-  answer_untouched (Done (Fitted v)) = rows_untouched 0 v
-  answer_untouched (Done (Failed r v)) = rows_untouched _ v
-  answer_untouched (Rejected r) = record { rows = refl; sums = refl; long = (refl, refl) }
+  answer_untouched : (a : Result Fit Refusal) → Untouched from out summary (answer_bytes a rows out summary)
+  answer_untouched (Ok f) = rows_untouched _ f.finish.summary
+  answer_untouched (Err r) = record { rows = refl; sums = refl; long = (refl, refl) }
 
 -- ---- a call that no test refuses
 
@@ -105,7 +103,7 @@ module _ (coords x y : List ℕ) (p kernel kind bandwidth : ℕ) (out summary : 
   abbrev room : List Float
   room = replicate (n * (p + 4)) zero64
 
-  abbrev f : Fit × List Float
+  abbrev f : Result Fit Refusal × List Float
   f = numbers_fit coords x y p o
 
   abbrev tests : List (Bool × Refusal)
@@ -140,12 +138,12 @@ module _ (coords x y : List ℕ) (p kernel kind bandwidth : ℕ) (out summary : 
       }
 
   -- it leaves every byte behind the rows written and behind the summary's 24
-  pub call_untouched : NoneOf tests → Untouched (8 * (f.0.rows * (p + 4))) out summary (fit_bytes coords x y p kernel kind bandwidth out summary)
+  pub call_untouched : NoneOf tests → Untouched (8 * (rows_written f.0 * (p + 4))) out summary (fit_bytes coords x y p kernel kind bandwidth out summary)
   call_untouched h =
       let z = call_passed h in
-      let numbers = take (f.0.rows * (p + 4)) f.1 in
+      let numbers = take (rows_written f.0 * (p + 4)) f.1 in
       let g = fits (numbers_of coords x y p) p o room in
       let e = (call_decides coords x y p out summary kernel kind bandwidth).served h in
       rw e
-      (answer_untouched numbers out summary (8 * (f.0.rows * (p + 4))) (omega (arith, length_real_bytes numbers, length-take (f.0.rows * (p + 4)) f.1))
-      (omega (arith, g.rows, length-replicate (n * (p + 4)) zero64, z.bytes)) z.whole f.0.answer)
+      (answer_untouched numbers out summary (8 * (rows_written f.0 * (p + 4))) (omega (arith, length_real_bytes numbers, length-take (rows_written f.0 * (p + 4)) f.1))
+      (omega (arith, g.rows, length-replicate (n * (p + 4)) zero64, z.bytes)) z.whole f.0)

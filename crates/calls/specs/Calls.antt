@@ -1,5 +1,5 @@
 -- The fit call: its list of tests, what it answers, and every byte that it leaves. Definitions only.
-use Rattle.std.specs.Prelude.{ℕ, ◌+◌, ◌*◌, ◌/◌, ◌≤◌, Bool, cond, ◌||◌, List, ◌∷◌, ◌++◌, ltb, length, take, replicate, Float}
+use Rattle.std.specs.Prelude.{ℕ, ◌+◌, ◌*◌, ◌/◌, ◌≤◌, Bool, cond, ◌||◌, List, ◌∷◌, ◌++◌, ltb, length, take, replicate, Float, Result, Ok, Err}
 use Rattle.real.specs.Reals.{zero64}
 use Rattle.wire.specs.Wire.{bits_of, bytes_of, reals, real_bytes, placed}
 use Rattle.refusal.specs.Numbers.{refusal_number}
@@ -11,11 +11,9 @@ use Rattle.setup.specs.Data.{Data, trusting}
 use Rattle.setup.specs.Shape.{setup_of}
 use Rattle.criterion.specs.declared.Summary.{Summary}
 use Rattle.input.specs.Checks.{value_tests, option_tests}
-use Rattle.sweep.specs.declared.Finish.TheVariants.{Fitted, Failed}
-use Rattle.gwr.specs.declared.FitAnswer.{FitAnswer}
-use Rattle.gwr.specs.declared.FitAnswer.TheVariants.{Done, Rejected}
+use Rattle.sweep.specs.Finish.{finish_number}
 use Rattle.gwr.specs.declared.Fit.{Fit}
-use Rattle.gwr.specs.Fit.{gwr_fit}
+use Rattle.gwr.specs.Fit.{gwr_fit, rows_written}
 use Rattle.request.specs.Lengths.{byte_tests}
 use Rattle.request.specs.Options.{options_of, is_unknown, named}
 
@@ -63,17 +61,16 @@ unfoldable pub placed_rows : ℕ → List Float → Summary → List ℕ → Lis
 placed_rows number rows v out summary = (number, (placed out 0 (real_bytes rows), placed summary 0 (summary_bytes v)))
 
 -- a refusal met while solving keeps the rows before it
-abbrev pub answer_bytes : FitAnswer → List Float → List ℕ → List ℕ → AfterCall
-answer_bytes (Done (Fitted v)) rows out summary = placed_rows 0 rows v out summary
-answer_bytes (Done (Failed r v)) rows out summary = placed_rows (refusal_number r) rows v out summary
-answer_bytes (Rejected r) rows out summary = refused_call r out summary
+abbrev pub answer_bytes : Result Fit Refusal → List Float → List ℕ → List ℕ → AfterCall
+answer_bytes (Ok f) rows out summary = placed_rows (finish_number f.finish) rows f.finish.summary out summary
+answer_bytes (Err r) rows out summary = refused_call r out summary
 
 -- a fit's answer, with as many rows of p + 4 numbers as it says
-abbrev pub fitted_bytes : ℕ → Fit × List Float → List ℕ → List ℕ → AfterCall
-fitted_bytes p f out summary = answer_bytes f.0.answer (take (f.0.rows * (p + 4)) f.1) out summary
+abbrev pub fitted_bytes : ℕ → Result Fit Refusal × List Float → List ℕ → List ℕ → AfterCall
+fitted_bytes p f out summary = answer_bytes f.0 (take (rows_written f.0 * (p + 4)) f.1) out summary
 
 -- the fit of the numbers, with an output of n rows
-abbrev pub numbers_fit : List ℕ → List ℕ → List ℕ → ℕ → GwrOptions → Fit × List Float
+abbrev pub numbers_fit : List ℕ → List ℕ → List ℕ → ℕ → GwrOptions → Result Fit Refusal × List Float
 numbers_fit coords x y p o = gwr_fit (numbers_of coords x y p) p o (replicate (length coords / 16 * (p + 4)) zero64)
 
 -- the first test that holds refuses; where none holds, the fit of the numbers is answered
@@ -93,16 +90,6 @@ room_of n p out summary = cond (ltb summary 24) 0 (cond (ltb out (8 * (n * (p + 
 unfoldable pub fit_parts : List ℕ → List ℕ → List ℕ → ℕ → GwrOptions → List ℕ → List ℕ → AfterCall
 fit_parts coords x y p o out summary =
     fitted_bytes p (gwr_fit (numbers_of coords x y p) p o (replicate (room_of (length coords / 16) p (length out) (length summary)) zero64)) out summary
-
--- room for what an answer writes: `count` of `rows` numbers, and the summary
-pub record Writable (count rows out summary : ℕ) : Type 0 where
-  pub there : count ≤ rows
-  pub bytes : 8 * count ≤ out
-  pub whole : 24 ≤ summary
-
-abbrev pub Roomy : FitAnswer → ℕ → ℕ → ℕ → ℕ → Type 0
-Roomy (Done f) count rows out summary = Writable count rows out summary
-Roomy (Rejected r) count rows out summary = Unit
 
 -- a part of a buffer that the fit may write: its bytes have room in the output, and none is offered without the summary's 24
 pub record Offered (room out summary : ℕ) : Type 0 where

@@ -6,18 +6,17 @@ use mathlib.Core.Logic.{◌⊎◌, inl, inr}
 use Prim.Native.Nat.{ℕ}
 use native.Mathlib.Omega.{arith}
 use Rattle.refusal.specs.declared.Refusal.{Refusal}
-use Rattle.checks.specs.declared.Check.{Check}
-use Rattle.checks.specs.declared.Check.TheVariants.{Pass, Refused}
-use Rattle.checks.specs.Judge.{judge, ruled, FirstOf, NoneOf, Decides}
+use Rattle.std.specs.Prelude.{Ok, Err}
+use Rattle.checks.specs.Judge.{Check, judge, ruled, FirstOf, NoneOf, Decides}
 
 -- ---- what a check leads to
 
 module _ {A : Type 0} (refuse : Refusal → A) (given : A) {k : Check} where
-  pub ruled_refused : {r : Refusal} → k ≡ Refused r → ruled k refuse given ≡ refuse r
+  pub ruled_refused : {r : Refusal} → k ≡ Err r → ruled k refuse given ≡ refuse r
   unfolding ruled
   ruled_refused e = ap (λ (c : Check). ruled c refuse given) e
 
-  pub ruled_pass : k ≡ Pass → ruled k refuse given ≡ given
+  pub ruled_pass : k ≡ Ok tt → ruled k refuse given ≡ given
   unfolding ruled
   ruled_pass e = ap (λ (c : Check). ruled c refuse given) e
 
@@ -34,14 +33,14 @@ module _ {A : Type 0} (refuse : Refusal → A) (given : A) where
       go true e ih = rw e
       go false e ih = rw e ih
 
-ruled_itself : (k : Check) → ruled k Refused Pass ≡ k
+ruled_itself : (k : Check) → ruled k Err (Ok tt) ≡ k
 unfolding ruled
-ruled_itself Pass = refl
-ruled_itself (Refused r) = refl
+ruled_itself (Ok u) = refl
+ruled_itself (Err r) = refl
 
 -- the first list, then the second
-pub judge_append : (l m : List (Bool × Refusal)) → judge (l ++ m) ≡ ruled (judge l) Refused (judge m)
-judge_append l m = sym (ruled_itself (judge (l ++ m))) ∙ ruled_append Refused Pass l m ∙ ap (ruled (judge l) Refused) (ruled_itself (judge m))
+pub judge_append : (l m : List (Bool × Refusal)) → judge (l ++ m) ≡ ruled (judge l) Err (judge m)
+judge_append l m = sym (ruled_itself (judge (l ++ m))) ∙ ruled_append Err (Ok tt) l m ∙ ap (ruled (judge l) Err) (ruled_itself (judge m))
 
 -- ---- entry by entry
 
@@ -85,7 +84,7 @@ none_among r h here = (none_head _ _ _ h).0
 none_among r h (later a) = none_among r (none_head _ _ _ h).1 a
 
 pub append_none : (l m : List (Bool × Refusal)) → NoneOf l → NoneOf m → NoneOf (l ++ m)
-append_none l m h k = judge_append l m ∙ ruled_pass Refused (judge m) h ∙ k
+append_none l m h k = judge_append l m ∙ ruled_pass Err (judge m) h ∙ k
 
 -- ---- the first that holds
 
@@ -95,10 +94,10 @@ pub record First (l : List (Bool × Refusal)) (r : Refusal) : Type 0 where
   pub is : l ≡ before ++ (true, r) ∷ behind
   pub none : NoneOf before
 
-refused_one : {r s : Refusal} → Refused r ≡ Refused s → r ≡ s
+refused_one : {r s : Refusal} → ◌≡◌ {A = Check} (Err r) (Err s) → r ≡ s
 refused_one e = cc
 
-pass_refused : {r : Refusal} → Pass ≡ Refused r → ⊥
+pass_refused : {r : Refusal} → ◌≡◌ {A = Check} (Ok tt) (Err r) → ⊥
 pass_refused e = let z : ◌≡◌ {A = ℕ} 0 1 = cc in omega arith
 
 pub first_splits : (l : List (Bool × Refusal)) (r : Refusal) → FirstOf l r → First l r
@@ -110,7 +109,7 @@ first_splits ((false, s) ∷ l) r h =
     record { before = (false, s) ∷ f.before; behind = f.behind; is = ap (λ (m : List (Bool × Refusal)). (false, s) ∷ m) f.is; none = f.none }
 
 pub first_stands : {l : List (Bool × Refusal)} {r : Refusal} → First l r → FirstOf l r
-first_stands {l} {r} f = ap judge f.is ∙ judge_append f.before ((true, r) ∷ f.behind) ∙ ruled_pass Refused _ f.none ∙ first_here r f.behind refl
+first_stands {l} {r} f = ap judge f.is ∙ judge_append f.before ((true, r) ∷ f.behind) ∙ ruled_pass Err _ f.none ∙ first_here r f.behind refl
 
 -- ---- every list is decided, one way
 
@@ -118,8 +117,8 @@ pub decided : (l : List (Bool × Refusal)) → ((r : Refusal) × FirstOf l r) �
 decided l = go (judge l) refl
   where
     go : (k : Check) → judge l ≡ k → ((r : Refusal) × FirstOf l r) ⊎ NoneOf l
-    go Pass e = inr e
-    go (Refused r) e = inl (r, e)
+    go (Ok u) e = inr e
+    go (Err r) e = inl (r, e)
 
 module _ (l : List (Bool × Refusal)) where
   pub first_none : {r : Refusal} → FirstOf l r → NoneOf l → ⊥

@@ -1,10 +1,2 @@
-// What a check of an input says. The lists of tests that it goes by are specs/Judge.antt's.
+// The lists of tests that the checks of an input go by, stated in specs/ and their laws proved in proofs/. There is no code here.
 #![tactic(auto)]
-
-use refusal::Refusal;
-
-#[derive(Clone, Copy)]
-pub enum Check {
-    Pass,
-    Refused(Refusal),
-}

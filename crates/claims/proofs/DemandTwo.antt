@@ -6,8 +6,9 @@ use lib.Dec.{T}
 use lib.ListN.{get_or}
 use lib.Ieee.{nan}
 use lib.Ieee.Scale.{finite}
-use Rattle.claims.specs.Words.{At, between, NoneOf, GwrOptions, Data, data_of, setup_of, Acceptance, fit_tests, answered, gwr_fit}
-use Rattle.claims.proofs.Laws.{plus_once, minus_once, times_once, over_once, opposite_exact, less_exact, constants_exact, root_nearest, root_of_negative, root_of_nan, root_of_infinity, root_of_zero, exp_in, K-le, near_power_series, ln_finite, split_exact, weights_in, weight_zero, weight_rounded, weight_apart, gaussian_exact, bisquare_exact, bisquare_outside, exponential_exact, ceil_root_least, default_count, given_count, nearest_is_kth, all_ascending, all_met, product_in, published_exact, aicc_rounded, aicc_refused, aicc_exhausted, aicc_floored, guard_same, guard_differs, guard_nan, bytes_unguarded, G-is, G2-is, near_golden, start_section, round_section, residues, golden_section, round_kiefer, searched, round_narrows, bottom_kept, bottom_stays, normal_equations, fit_literal}
+use Rattle.std.specs.Prelude.{Some}
+use Rattle.claims.specs.Words.{between, NoneOf, GwrOptions, Data, data_of, setup_of, Acceptance, fit_tests, answered, gwr_fit}
+use Rattle.claims.proofs.Laws.{plus_once, minus_once, times_once, over_once, opposite_exact, less_exact, constants_exact, root_nearest, root_of_negative, root_of_nan, root_of_infinity, root_of_zero, exp_in, K-le, near_power_series, ln_finite, split_exact, weights_in, weight_zero, weight_rounded, weight_apart, gaussian_exact, bisquare_exact, bisquare_outside, exponential_exact, ceil_root_least, default_count, given_count, nearest_is_kth, all_ascending, all_met, product_in, published_exact, aicc_rounded, aicc_refused, aicc_exhausted, aicc_floored, guard_same, guard_differs, guard_nan, bytes_unguarded, G-is, G2-is, near_golden, start_section, round_section, residues, golden_section, round_kiefer, searched, round_narrows, bottom_kept, bottom_stays, exact_solves, fit_literal}
 use Rattle.claims.proofs.Sums.{places, sum_at, weighs_at, never_weightless, one_weighs}
 use Rattle.claims.proofs.Trusting.{solve_trusting, score_trusting, fit_trusting, begin_trusting, turn_trusting}
 use Rattle.claims.specs.DemandTwo.{DemandTwo}
@@ -42,7 +43,7 @@ demand_two =
       bottom_kept = bottom_kept;
       bottom_stays = bottom_stays;
       round_narrows = round_narrows;
-      normal_equations = normal_equations;
+      normal_equations = exact_solves;
       root_nearest = root_nearest;
       root_negative = root_of_negative;
       root_own = (root_of_nan, root_of_infinity, root_of_zero);
@@ -75,10 +76,10 @@ demand_two =
       trusting_fit = λ coords x y p o out. fit_trusting coords x y p o out;
       trusting_begin = λ coords x y p o out. begin_trusting coords x y p o out;
       trusting_turn = λ j coords x y out a. turn_trusting coords x y j out a;
-      kth_smallest_lem = λ d p o out a i k h some. nearest_is_kth d.coords _ _ (At i) (setup_of d p o).n (east d p o out a i h) (north d p o out a i h) (places d p o out a) k some;
-      all_distances_lem = λ coords i m. all_met (At i) (between coords i) m;
+      kth_smallest_lem = λ d p o out a i k h some. nearest_is_kth d.coords _ _ (Some i) (setup_of d p o).n (east d p o out a i h) (north d p o out a i h) (places d p o out a) k some;
+      all_distances_lem = λ coords i m. all_met (Some i) (between coords i) m;
       ascending =
-          λ d p o out a i h. all_ascending d.coords _ _ (At i) (setup_of d p o).n (east d p o out a i h) (north d p o out a i h) (places d p o out a);
+          λ d p o out a i h. all_ascending d.coords _ _ (Some i) (setup_of d p o).n (east d p o out a i h) (north d p o out a i h) (places d p o out a);
       default_count = default_count;
       least_root = ceil_root_least;
       given_count = given_count;

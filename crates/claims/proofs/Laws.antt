@@ -25,7 +25,7 @@ pub use Rattle.weights.proofs.Ones.{one_at, times_whole, ones_weights}
 pub use Rattle.estimate.proofs.Meanings.{weightless_means, inverse_not_finite_means, coefficient_not_finite_means}
 pub use Rattle.estimate.proofs.Blind.{fit_blind}
 pub use Rattle.evaluate.proofs.Blind.{values_blind}
-pub use Rattle.estimate.proofs.NormalEquations.{normal_equations}
+pub use Rattle.estimate.proofs.NormalEquations.{exact_solves}
 pub use Rattle.row.proofs.Copies.{row_within}
 pub use Rattle.row.proofs.Rows.{row_long, put_long}
 pub use Rattle.local.proofs.Lengths.{beta_eight}

@@ -8,7 +8,8 @@ use lib.Dec.{T}
 use lib.ListN.{length, get_or}
 use lib.Ieee.{Float, nan, inf, fin, binary64, lt, fits, is_nan, of_bits}
 use lib.Ieee.Fits.{cond-fits, nan-fits}
-use Rattle.claims.specs.Words.{greater, zero64, root, squares_of, distance_of, Span, SearchInside, GwrOptions, Data, setup_of, Sought, Planned, farther_pair, farther_from, greatest_distance, accept_of}
+use Rattle.std.specs.Prelude.{Ok}
+use Rattle.claims.specs.Words.{greater, zero64, root, squares_of, distance_of, Span, SearchInside, GwrOptions, Data, setup_of, Sought, farther_pair, farther_from, greatest_distance, accept_of}
 use Rattle.claims.proofs.Laws.{kept, nonneg, root_of_nan, squares_nonneg, root_fits, squares_fits, distance_is, search_span, searched, sought_ranged}
 
 -- ---- the greatest pair distance is a number of binary64
@@ -40,7 +41,7 @@ unfolding greatest_distance fits of_bits
 greatest_held coords n = kept (farther_from coords n) 0 n Held (λ i s l a. from_held coords n i s (omega arith) a) zero64 (omega arith) tt
 
 -- ---- the whole
-module _ (d : Data) (p : ℕ) (o : GwrOptions) (out : List Float) (lo hi : Float) (sought : accept_of d p o (length out) ≡ Planned (Sought lo hi)) where
+module _ (d : Data) (p : ℕ) (o : GwrOptions) (out : List Float) (lo hi : Float) (sought : accept_of d p o (length out) ≡ Ok (Sought lo hi)) where
   pub job_span : Span lo hi
   job_span =
       let r = sought_ranged d p o (length out) (greatest_held d.coords (setup_of d p o).n) sought in

@@ -1,17 +1,17 @@
--- What beginning gives where it answers Ready: the job of the plan, a state that holds, and data and output that no turn refuses.
-use mathlib.Core.Path.{◌≡◌, refl, ap, subst, subst⁻¹, ◌∙◌}
+-- What beginning gives where it refuses nothing: the job of the plan, a state that holds, and data and output that no turn refuses.
+use mathlib.Core.Path.{◌≡◌, refl, sym, ap, subst, subst⁻¹, ◌∙◌}
 use mathlib.Core.List.{List}
 use Prim.Native.Nat.{ℕ, ◌+◌, ◌*◌}
 use native.Mathlib.Omega.{arith}
 use borrow.Author.Tests.{eq-eqb, le-ltb}
 use lib.ListN.{length}
 use lib.Ieee.{Float}
-use Rattle.checks.specs.declared.Check.TheVariants as check
-use Rattle.claims.specs.Words.{judge, GwrBandwidth, Fixed, AdaptiveKnn, GwrOptions, Setup, Data, trust_count, setup_of, Sized, Bracket, Plan, Acceptance, value_tests, output_tests, lengths_fit, plan_of, accept_of, planned, answered, gwr_fit, Stage, First, Final, Job, fresh_job, OfKind, TrialsAt, Sound, start_job, begun_with, begin_of, lent_tests}
+use Rattle.std.specs.Prelude.{Ok, Err}
+use Rattle.claims.specs.Words.{judge, GwrBandwidth, Fixed, AdaptiveKnn, GwrOptions, Setup, Data, trust_count, setup_of, Sized, Bracket, Plan, Acceptance, value_tests, output_tests, lengths_fit, plan_of, accept_of, planned, answered, gwr_fit, Stage, First, Final, Job, fresh_job, OfKind, TrialsAt, Sound, start_job, begun_with, begin_of, lent_tests, fitted}
 use Rattle.claims.proofs.Laws.{Serves, accept_planned, Accepted, kind_at, Holds}
 use Rattle.plan.specs.declared.Plan.TheVariants as plan
-use Rattle.plan.specs.declared.Acceptance.TheVariants as acceptance
-use Rattle.starting.specs.declared.Beginning.TheVariants as beginning
+use Rattle.std.specs.Prelude.{Result, Ok}
+use Rattle.refusal.specs.declared.Refusal.{Refusal}
 
 -- ---- the bandwidth is of the options' kind
 
@@ -40,39 +40,40 @@ module _ (d : Data) (p : ℕ) (o : GwrOptions) (out : List Float) where
   own = plan_of u d
 
   -- the input was accepted, job and fit are those of the plan, and the state that beginning gives holds
-  pub record Started : Type 0 where
+  pub record Started (j : Job) : Type 0 where
     pub accepted : Accepted d p o (length out)
-    pub plan : accept_of d p o (length out) ≡ acceptance.Planned own
-    pub job : (begin_of d p o (length out)).job ≡ start_job u own
-    pub fit : gwr_fit d p o out ≡ planned own u d out
-    pub holds : Holds u (length out) ((begin_of d p o (length out)).job, out)
+    pub plan : accept_of d p o (length out) ≡ Ok own
+    pub job : j ≡ start_job u own
+    pub fit : gwr_fit d p o out ≡ fitted (planned own u d out)
+    pub holds : Holds u (length out) (j, out)
 
-  with_plan : (q : Plan) → accept_of d p o (length out) ≡ acceptance.Planned q → Started
-  unfolding begin_of gwr_fit
-  with_plan q e =
+  with_plan : (q : Plan) (j : Job) → accept_of d p o (length out) ≡ Ok q → ◌≡◌ {A = Result Job Refusal} (Ok (start_job u q)) (Ok j) → Started j
+  unfolding gwr_fit
+  with_plan q j e h =
       let s = accept_planned d p o (length out) e in
-      let i : accept_of d p o (length out) ≡ acceptance.Planned own = e ∙ ap acceptance.Planned s.is in
-      let job : (begun_with (accept_of d p o (length out)) u).job ≡ start_job u own = ap (λ (a : Acceptance). (begun_with a u).job) i in
+      let i : accept_of d p o (length out) ≡ Ok own = e ∙ ap Ok s.is in
+      let made : start_job u q ≡ j = cc in
+      let job : j ≡ start_job u own = sym made ∙ ap (start_job u) s.is in
       record {
         accepted = s.accepted;
         plan = i;
         job = job;
         fit = ap (λ (a : Acceptance). answered a u d out) i;
         holds =
-            subst⁻¹ (λ (j : Job). Holds u (length out) (j, out)) job
+            subst⁻¹ (λ (k : Job). Holds u (length out) (k, out)) job
             (planned_holds u out s.accepted.shaped.sized own (subst (Serves o.bandwidth) s.is s.serves));
       }
 
-  pub started : (begin_of d p o (length out)).answer ≡ beginning.Ready → Started
+  pub started : (j : Job) → begin_of d p o (length out) ≡ Ok j → Started j
   unfolding begin_of
-  started h = go (accept_of d p o (length out)) refl h
+  started j h = go (accept_of d p o (length out)) refl h
     where
-      go : (a : Acceptance) → accept_of d p o (length out) ≡ a → (begun_with a u).answer ≡ beginning.Ready → Started
-      go (acceptance.Refused r) e h = let z : ◌≡◌ {A = ℕ} 0 1 = cc in absurd (omega arith)
-      go (acceptance.Planned q) e h = with_plan q e
+      go : (a : Acceptance) → accept_of d p o (length out) ≡ a → begun_with a u ≡ Ok j → Started j
+      go (Err r) e h = let z : ◌≡◌ {A = ℕ} 0 1 = cc in absurd (omega arith)
+      go (Ok q) e h = with_plan q j e h
 
   -- ---- what is lent
-  pub lent_passes : Accepted d p o (length out) → judge (lent_tests u d (length out)) ≡ check.Pass
+  pub lent_passes : Accepted d p o (length out) → judge (lent_tests u d (length out)) ≡ Ok tt
   unfolding judge lent_tests lengths_fit value_tests output_tests
   lent_passes a =
       let s = a.shaped in

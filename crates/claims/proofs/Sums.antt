@@ -1,4 +1,7 @@
 -- The weight sums of an accepted job: finite, and above 0 where the location's own trust times 1 is, so that 27 is not met there.
+use Rattle.refusal.specs.declared.Refusal.{Refusal}
+use Rattle.local.specs.declared.Solved.{Solved}
+use Rattle.std.specs.Prelude.{Err, Result}
 use mathlib.Core.Path.{◌≡◌, ap, ◌∙◌, subst, subst⁻¹}
 use mathlib.Core.Bool.{true}
 use mathlib.Core.Logic.{inl, inr}
@@ -10,9 +13,8 @@ use lib.ListN.{length, get_or}
 use lib.Ieee.{Float, nan, binary64, mul, lt, le, fits, of_bits}
 use lib.Ieee.Fits.{and_l, and_r}
 use lib.Ieee.Scale.{finite}
-use Rattle.claims.specs.Words.{zero64, one64, in_unit, WeightSumNotPositive, refusal_number, NoneOf, GwrBandwidth, GwrOptions, Setup, Trusts, unasked, each, Data, trusting, count_in, setup_of, local_bandwidth_distance, trusted_weight, weights_at, trusts_fit, input_tests, fit_tests, Outcome, solve_location}
+use Rattle.claims.specs.Words.{zero64, one64, in_unit, WeightSumNotPositive, refusal_number, NoneOf, GwrBandwidth, GwrOptions, Setup, Trusts, unasked, each, Data, trusting, count_in, setup_of, local_bandwidth_distance, trusted_weight, weights_at, trusts_fit, input_tests, fit_tests, solve_location}
 use Rattle.claims.proofs.Laws.{at_each, none_append, Accepted, input_accepted, TrustAt, weight_sum, one_at, times_whole, AtFit, OutcomeBy, weighed_at}
-use Rattle.local.specs.declared.Outcome.TheVariants as outcome
 
 -- every trust that is asked for lies from 0 to 1
 rate : (t : Trusts) (y n j : ℕ) → trusts_fit t ≡ true → count_in t y ≡ n → j < n → TrustAt t j
@@ -39,7 +41,7 @@ module _ (d : Data) (p : ℕ) (o : GwrOptions) (out : ℕ) (passed : NoneOf (fit
     pub sum_at : (b : Float) → T (finite (weights_at u d i b).1) × (T (lt zero64 (trusted_weight d.trusts i one64)) → T (lt zero64 (weights_at u d i b).1))
     sum_at b = weight_sum u d i b places rated inside accepted.shaped.sized.few
 
-    pub weighs_at : (b : GwrBandwidth) → T (lt zero64 (trusted_weight d.trusts i one64)) → OutcomeBy AtFit (solve_location u d b i).outcome
+    pub weighs_at : (b : GwrBandwidth) → T (lt zero64 (trusted_weight d.trusts i one64)) → OutcomeBy AtFit (solve_location u d b i)
     weighs_at b own = weighed_at u d b i ((sum_at (local_bandwidth_distance d.coords u.n i b)).1 own)
 
 -- 27 is none of 14, 15 and 16
@@ -48,7 +50,7 @@ fit_weighs (inl e) = let n = ap refusal_number e in omega (arith, n)
 fit_weighs (inr (inl e)) = let n = ap refusal_number e in omega (arith, n)
 fit_weighs (inr (inr e)) = let n = ap refusal_number e in omega (arith, n)
 
-pub never_weightless : (o : Outcome) → OutcomeBy AtFit o → o ≡ outcome.Refused WeightSumNotPositive → ⊥
+pub never_weightless : (o : Result Solved Refusal) → OutcomeBy AtFit o → o ≡ Err WeightSumNotPositive → ⊥
 never_weightless o h e = fit_weighs (subst (OutcomeBy AtFit) e h)
 
 -- ---- a trust of 1, or none asked for, weighs

@@ -1,4 +1,5 @@
 -- With trusts of 1 every solve, score, fit, beginning and turn is that of the same data with no trust asked for. Assumes nothing.
+use Rattle.std.specs.Prelude.{Some, None, Result, Option}
 use mathlib.Core.Path.{◌≡◌, refl, sym, ap, ◌∙◌}
 use mathlib.Core.Bool.{Bool, true, false, cond}
 use mathlib.Core.List.{List, []}
@@ -7,21 +8,21 @@ use native.Mathlib.Omega.{arith}
 use lib.ListN.{length, replicate, length-replicate}
 use lib.Ieee.{Float, le, of_bits}
 use borrow.Author.Tests.{not-false}
-use Rattle.checks.specs.declared.Check.TheVariants as check
-use Rattle.claims.specs.Words.{one64, all_of, all_in_unit, Refusal, judge, ruled, NoneOf, Check, GwrBandwidth, GwrOptions, Setup, Data, data_of, trusting, setup_of, lengths_fit, value_tests, input_tests, fit_tests, Plan, Settled, Sought, Acceptance, plan_of, accepted, accept_of, bandwidth_at, Solved, solve_local, solve_location, Course, Going, Stopped, Swept, after_solve, row_after, visit_at, visit, fit_all_locations, Trial, trial_from, trial_of, Search, Optimum, scored_of, round_with, optimum_of, Bracket, start_of, aim_of, round_of, opened_of, golden_of, optimize_bandwidth, final_of, sought_of, planned, answered, gwr_fit, Job, step_job, step_out, step_of, is_over, is_final, after_outcome, run, begun_with, begin_of, lent_tests, turn_tests, refused_turn, ran_of, run_of, turn_of, fit_from}
+use Rattle.std.specs.Prelude.{Ok, Err, Result}
+use Rattle.claims.specs.Words.{one64, all_of, all_in_unit, Refusal, judge, ruled, NoneOf, Check, GwrBandwidth, GwrOptions, Setup, Data, data_of, trusting, setup_of, lengths_fit, value_tests, input_tests, fit_tests, Plan, Settled, Sought, Acceptance, plan_of, accepted, accept_of, bandwidth_at, Solved, solve_local, solve_location, Swept, after_solve, row_after, visit_at, visit, fit_all_locations, Trial, trial_from, trial_of, Search, Optimum, scored_of, round_with, optimum_of, Bracket, start_of, aim_of, round_of, opened_of, golden_of, optimize_bandwidth, final_of, sought_of, planned, answered, gwr_fit, Job, step_job, step_out, step_of, is_over, is_final, after_outcome, run, begun_with, begin_of, lent_tests, turn_tests, refused_turn, ran_of, run_of, turn_of, fit_from, fitted, Coefficients, Values, solved_by}
 use Rattle.claims.proofs.Laws.{related, none_append, none_head, ones_weights, fit_blind, values_blind, input_accepted, step_setup, lengths_fit_means}
 
 -- ---- a fit sees its data through its solves
 
 module _ (u : Setup) (d e : Data) (same : (b : GwrBandwidth) (i : ℕ) → solve_location u d b i ≡ solve_location u e b i) where
-  visit_alike : (c : Course) (rows : Bool) (b : GwrBandwidth) (i : ℕ) (s : Swept × List Float) → visit_at c rows u d b i s ≡ visit_at c rows u e b i s
-  visit_alike Going rows b i s = ap (λ (v : Solved). (after_solve s.0.sweep v.outcome, row_after rows u i v s.1)) (same b i)
-  visit_alike (Stopped r) rows b i s = refl
+  visit_alike : (c : Option Refusal) (rows : Bool) (b : GwrBandwidth) (i : ℕ) (s : Swept × List Float) → visit_at c rows u d b i s ≡ visit_at c rows u e b i s
+  visit_alike None rows b i s = ap (λ (v : Result Solved Refusal). (after_solve s.0.sweep v, row_after rows u i v s.1)) (same b i)
+  visit_alike (Some r) rows b i s = refl
 
   sweep_alike : (rows : Bool) (b : GwrBandwidth) (out : List Float) → fit_all_locations rows u d b out ≡ fit_all_locations rows u e b out
   unfolding fit_all_locations visit
   sweep_alike rows b out =
-      related (visit rows u d b) (visit rows u e b) 0 u.n ◌≡◌ (λ i s t _ h. ap (visit rows u d b i) h ∙ visit_alike t.0.course rows b i t) _ _ (omega arith) refl
+      related (visit rows u d b) (visit rows u e b) 0 u.n ◌≡◌ (λ i s t _ h. ap (visit rows u d b i) h ∙ visit_alike t.0.stopped rows b i t) _ _ (omega arith) refl
 
   trial_alike : (point : Float) → trial_of u d point ≡ trial_of u e point
   unfolding trial_of
@@ -52,7 +53,7 @@ module _ (u : Setup) (d e : Data) (same : (b : GwrBandwidth) (i : ℕ) → solve
 step_alike : (d e : Data) (s : Job × List Float) → ((b : GwrBandwidth) (i : ℕ) → solve_location s.0.setup d b i ≡ solve_location s.0.setup e b i) → step_of d s ≡ step_of e s
 unfolding step_of step_job step_out
 step_alike d e s same =
-    ap (λ (v : Solved). (after_outcome s.0 v.outcome, row_after (is_final s.0.stage) s.0.setup s.0.sweep.location v s.1))
+    ap (λ (v : Result Solved Refusal). (after_outcome s.0 v, row_after (is_final s.0.stage) s.0.setup s.0.sweep.location v s.1))
     (same s.0.bandwidth s.0.sweep.location)
 
 setup_kept : (d : Data) (s : Job × List Float) → (step_of d s).0.setup ≡ s.0.setup
@@ -66,6 +67,12 @@ unfolding all_of le of_bits
 all_ones zero = refl
 all_ones (suc n) = all_ones n
 
+-- the values alone tell what is solved apart
+solved_alike : (f : Result Coefficients Refusal) (v w : Coefficients → Values) → ((c : Coefficients) → v c ≡ w c) → solved_by f v ≡ solved_by f w
+unfolding solved_by
+solved_alike (Ok c) v w h = ap (λ (z : Values). solved_by (Ok c) (λ _. z)) (h c)
+solved_alike (Err r) v w h = refl
+
 module _ (coords x y : List Float) where
   abbrev d : Data
   d = trusting coords x y
@@ -76,7 +83,8 @@ module _ (coords x y : List Float) where
   -- each solve: the weights are the same, and the rest sees no trust
   pub solve_trusting : (u : Setup) → length y ≡ u.n → (b : GwrBandwidth) (i : ℕ) → solve_location u d b i ≡ solve_location u e b i
   unfolding solve_location solve_local
-  solve_trusting u many b i = rw (ones_weights u coords x y many, fit_blind, values_blind)
+  solve_trusting u many b i =
+      rw (ones_weights u coords x y many, fit_blind) (solved_alike _ _ _ (λ c. values_blind u coords x y (replicate (length y) one64) _ i c.inverse c.beta _))
 
   pub score_trusting : (u : Setup) → length y ≡ u.n → (point : Float) → trial_of u d point ≡ trial_of u e point
   score_trusting u many point = trial_alike u d e (solve_trusting u many) point
@@ -99,9 +107,9 @@ module _ (coords x y : List Float) where
 
     answered_alike : (out : List Float) (k : Check) → judge (fit_tests e p o (length out)) ≡ k → answered (accepted k (plan_of u e)) u d out ≡ answered (accepted k (plan_of u e)) u e out
     unfolding ruled
-    answered_alike out (check.Refused r) h = refl
-    answered_alike out check.Pass h =
-        planned_alike u d e (solve_trusting u (input_accepted e p (length out) o (none_append (input_tests e p (length out)) _ h).0).shaped.answers) (plan_of u e) out
+    answered_alike out (Err r) h = refl
+    answered_alike out (Ok passed) h =
+        ap fitted (planned_alike u d e (solve_trusting u (input_accepted e p (length out) o (none_append (input_tests e p (length out)) _ h).0).shaped.answers) (plan_of u e) out)
 
     pub fit_trusting : (out : List Float) → gwr_fit d p o out ≡ gwr_fit e p o out
     unfolding gwr_fit accept_of
@@ -127,8 +135,8 @@ module _ (coords x y : List Float) where
 
     ruled_alike : (k : Check) → judge (turn_tests j e (length out)) ≡ k → ruled k (refused_turn j out) (run_of j d out a) ≡ ruled k (refused_turn j out) (run_of j e out a)
     unfolding ruled run_of
-    ruled_alike (check.Refused r) h = refl
-    ruled_alike check.Pass h = ap ran_of (run_alike a (j, out) (long_as h))
+    ruled_alike (Err r) h = refl
+    ruled_alike (Ok passed) h = ap ran_of (run_alike a (j, out) (long_as h))
 
     pub turn_trusting : turn_of j d out a ≡ turn_of j e out a
     unfolding turn_of

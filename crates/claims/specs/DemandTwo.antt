@@ -1,18 +1,15 @@
 -- Demand 2: document 01 sets the steps of exp and ln and adds limits; else the Rust rules. Kernels, golden section, AICc and square root are held against their published definitions, the listed spots apart.
 -- Definitions only; proofs/DemandTwo proves it, each part by a theorem of the crate that has the definition.
 -- That the function `gwr_fit` equals the definition of its name, in every bit of its answer and its output and on every input, is its contract; the definition is 000's `gwr_fit` line by line, the default count apart, of unguarded jobs whose data ask for no trusts; with 02's line added of guarded ones, and with 02's product in each weight where there are trusts. Here is what it says beyond that.
-use Rattle.std.specs.Prelude.{ℕ, ◌+◌, ◌-◌, ◌*◌, ◌/◌, ◌%◌, ◌^◌, ◌≤◌, ◌<◌, min, max, ◌≡◌, Bool, true, false, not, cond, T, pos, length, Float}
+use Rattle.std.specs.Prelude.{Some, ℕ, ◌+◌, ◌-◌, ◌*◌, ◌/◌, ◌%◌, ◌^◌, ◌≤◌, ◌<◌, min, max, ◌≡◌, Bool, true, false, not, cond, T, pos, length, Float, Ok, Err}
 use mathlib.Core.List.{List, [], ◌∷◌, Permᴰ}
 use Rattle.std.specs.Float.{nan, inf, fin, binary64}
 use Rattle.std.specs.Float.Ieee.{mul, neg, lt, le, eq, fits, is_nan, to_bits}
 use Rattle.std.specs.Float.Ieee.Scale.{finite}
-use Rattle.claims.specs.Words.{zero64, one64, eps64, least_normal, inf64, from_count, Fraction, fraction, fraction_of, Once, OnceBy, Arithmetic, rounded, exact, root, NearestRoot, floor708, exp_k, expv, lnv, LnFinite, SplitAs, DeviationNotFinite, GwrKernel, Gaussian, Bisquare, Exponential, unusable, weight_of, FromZeroToOne, kernel_formula, exact_weight, power_of_e, plain_weight, NoneOf, GwrBandwidth, AdaptiveKnn, Setup, Data, under, setup_of, Sized, ceil_root, LeastRoot, resolve_count, At, between, nearest_of, all_distances, met_distances, Ascending, kth_nearest, weights_at, fit_coefficients, ExactFit, Solves, deviation, freedom, aicc_published, aicc_formula, pi64, exhausted, corrected_aic, Bracket, inv_phi, inv_phi2, G, G2, start_of, goes_left, narrow_of, Span, Inside, Framed, KieferRound, Narrowed, tried_of, played_of, SearchInside, Valley, ScoredBy, Follows, GwrCriterion, Unguarded, Guarded, GwrOptions, options_of, named, bandwidth_at, fit_tests, accept_of, trial_of, golden_section_min, final_of, gwr_fit}
-use Rattle.claims.specs.Words.{NearPowerSeries, WeightSumNotPositive, trusted_weight, data_of, trusting, solve_location, Job, begin_of, turn_of}
-use Rattle.local.specs.declared.Outcome.TheVariants as outcome
-use Rattle.criterion.specs.declared.Criterion.TheVariants as criterion
+use Rattle.claims.specs.Words.{zero64, one64, eps64, least_normal, inf64, from_count, Fraction, fraction, fraction_of, Once, OnceBy, Arithmetic, rounded, exact, root, NearestRoot, floor708, exp_k, expv, lnv, LnFinite, SplitAs, DeviationNotFinite, GwrKernel, Gaussian, Bisquare, Exponential, unusable, weight_of, FromZeroToOne, kernel_formula, exact_weight, power_of_e, plain_weight, NoneOf, GwrBandwidth, AdaptiveKnn, Setup, Data, under, setup_of, Sized, ceil_root, LeastRoot, resolve_count, between, nearest_of, all_distances, met_distances, Ascending, kth_nearest, weights_at, Solves, deviation, freedom, aicc_published, aicc_formula, pi64, exhausted, corrected_aic, Bracket, inv_phi, inv_phi2, G, G2, start_of, goes_left, narrow_of, Span, Inside, Framed, KieferRound, Narrowed, tried_of, played_of, SearchInside, Valley, ScoredBy, Follows, GwrCriterion, Unguarded, Guarded, GwrOptions, options_of, named, bandwidth_at, fit_tests, accept_of, trial_of, golden_section_min, final_of, gwr_fit, fitted, Row, Matrix, Exact, equations_of}
+use Rattle.claims.specs.Words.{NearPowerSeries, WeightSumNotPositive, trusted_weight, data_of, trusting, solve_location, Job, begin_of, turn_of, Row, Matrix, Exact, equations_of}
 use Rattle.golden.specs.Points as points
 use Rattle.plan.specs.declared.Plan.TheVariants as plan
-use Rattle.plan.specs.declared.Acceptance.TheVariants as acceptance
 
 -- options that ask for a count and no search
 abbrev pub by_count : GwrCriterion → GwrKernel → ℕ → GwrOptions
@@ -22,13 +19,13 @@ pub record DemandTwo : Type 1 where
   -- ---- golden section: 000's `golden_section_min` as it is written
 
   -- an unsearched fit, and a search with no trial, are a final fit at once
-  pub settled : (d : Data) (p : ℕ) (o : GwrOptions) (out : List Float) (b : GwrBandwidth) → accept_of d p o (length out) ≡ acceptance.Planned (plan.Settled b)
-      → gwr_fit d p o out ≡ final_of (setup_of d p o) d b 0 out
+  pub settled : (d : Data) (p : ℕ) (o : GwrOptions) (out : List Float) (b : GwrBandwidth) → accept_of d p o (length out) ≡ Ok (plan.Settled b)
+      → gwr_fit d p o out ≡ fitted (final_of (setup_of d p o) d b 0 out)
   -- a searched one is a final fit at the point that `golden_section_min` finds, after its solves
-  pub searched : (d : Data) (p : ℕ) (o : GwrOptions) (out : List Float) (lo hi : Float) → accept_of d p o (length out) ≡ acceptance.Planned (plan.Sought lo hi) →
+  pub searched : (d : Data) (p : ℕ) (o : GwrOptions) (out : List Float) (lo hi : Float) → accept_of d p o (length out) ≡ Ok (plan.Sought lo hi) →
       let u = setup_of d p o in
       let m = golden_section_min (trial_of u d) lo hi in
-      gwr_fit d p o out ≡ final_of u d (bandwidth_at u m.0) m.1 out
+      gwr_fit d p o out ≡ fitted (final_of u d (bandwidth_at u m.0) m.1 out)
   -- the constants of the code are the root of 5, less 1, over 2, and its square, as 000 works them out
   pub ratio : (G ≡ inv_phi) × (G2 ≡ inv_phi2)
   -- Kiefer 1953: a round keeps the part about the lower score, reuses one inner point and its score, and makes one new trial
@@ -43,9 +40,9 @@ pub record DemandTwo : Type 1 where
   -- and of G that is 38494044947129 / 2^98, below 2^-52; G2 - (1 - G) is 2^-53
   pub ratio_near : points.NearGolden
   -- an accepted job's search goes between finite numbers lo ≤ hi whose difference is finite
-  pub search_span : (d : Data) (p : ℕ) (o : GwrOptions) (out : List Float) (lo hi : Float) → accept_of d p o (length out) ≡ acceptance.Planned (plan.Sought lo hi) → Span lo hi
+  pub search_span : (d : Data) (p : ℕ) (o : GwrOptions) (out : List Float) (lo hi : Float) → accept_of d p o (length out) ≡ Ok (plan.Sought lo hi) → Span lo hi
   -- of any number of its rounds, every point tried lies from lo to hi, rounding included, and the answer is a point tried
-  pub points_inside : (d : Data) (p : ℕ) (o : GwrOptions) (out : List Float) (lo hi : Float) → accept_of d p o (length out) ≡ acceptance.Planned (plan.Sought lo hi)
+  pub points_inside : (d : Data) (p : ℕ) (o : GwrOptions) (out : List Float) (lo hi : Float) → accept_of d p o (length out) ≡ Ok (plan.Sought lo hi)
       → (s t : Float) (l : List Float) → SearchInside lo hi s t l
   -- as of every search between such numbers
   pub span_inside : {lo hi : Float} → Span lo hi → (s t : Float) (l : List Float) → SearchInside lo hi s t l
@@ -60,7 +57,7 @@ pub record DemandTwo : Type 1 where
   -- ---- the local solve: Fotheringham, Brunsdon and Charlton 2002
 
   -- where nothing was rounded, the coefficients solve (XᵀWX) β = XᵀWy
-  pub normal_equations : (u : Setup) (d : Data) (w : List Float) (sum : Float) → ExactFit u d w sum → Solves u d w (fit_coefficients u d w sum).0.beta
+  pub normal_equations : (u : Setup) (d : Data) (w : Row) (a : Matrix) (beta : Row) → Exact u d w (equations_of u d w) a beta → Solves u d w beta
   -- ---- the square root: IEEE 754, nearest, ties to the even last bit
 
   -- of a positive finite number every other binary64 lies farther from the exact root, so that no tie occurs
@@ -115,7 +112,7 @@ pub record DemandTwo : Type 1 where
       T (finite sum) × (T (lt zero64 (trusted_weight d.trusts i one64)) → T (lt zero64 sum))
   -- 27 is not met there
   pub weighs : (d : Data) (p : ℕ) (o : GwrOptions) (out : ℕ) → NoneOf (fit_tests d p o out) → (i : ℕ) → i < (setup_of d p o).n → (b : GwrBandwidth)
-      → T (lt zero64 (trusted_weight d.trusts i one64)) → (solve_location (setup_of d p o) d b i).outcome ≡ outcome.Refused WeightSumNotPositive → ⊥
+      → T (lt zero64 (trusted_weight d.trusts i one64)) → (solve_location (setup_of d p o) d b i) ≡ Err WeightSumNotPositive → ⊥
   -- 01: 000's refusal of a weight sum never occurs where no trust is asked for
   pub weight_sum_untrusted : (coords x y : List Float) (p : ℕ) (o : GwrOptions) (out : ℕ) →
       let d = data_of coords x y in
@@ -134,11 +131,11 @@ pub record DemandTwo : Type 1 where
   -- a location's bandwidth is its k-th smallest distance to the others (`all_distances`), if that is zero the greatest of them and EPS
   pub kth_smallest_lem : (d : Data) (p : ℕ) (o : GwrOptions) (out : ℕ) → NoneOf (fit_tests d p o out) → (i k : ℕ) →
       let n = (setup_of d p o).n in
-      i < n → 1 ≤ k → nearest_of d.coords n i k ≡ kth_nearest (At i) (between d.coords i) n k
+      i < n → 1 ≤ k → nearest_of d.coords n i k ≡ kth_nearest (Some i) (between d.coords i) n k
   -- `all_distances` has every one of them, in ascending order
-  pub all_distances_lem : (coords : List Float) (i m : ℕ) → Permᴰ (all_distances (At i) (between coords i) m) (met_distances (At i) (between coords i) m)
+  pub all_distances_lem : (coords : List Float) (i m : ℕ) → Permᴰ (all_distances (Some i) (between coords i) m) (met_distances (Some i) (between coords i) m)
   pub ascending : (d : Data) (p : ℕ) (o : GwrOptions) (out : ℕ) → NoneOf (fit_tests d p o out) → (i : ℕ) → i < (setup_of d p o).n
-      → Ascending (all_distances (At i) (between d.coords i) (setup_of d p o).n)
+      → Ascending (all_distances (Some i) (between d.coords i) (setup_of d p o).n)
   -- 02: an unsearched count 0 becomes the larger of p + 3 and the least whole number whose square reaches n, then is capped at n - 1 and raised to at least 1
   pub default_count : (n p r : ℕ) → LeastRoot n r → resolve_count 0 n p ≡ max (min (max (p + 3) r) (n - 1)) 1
   -- there is such a number
@@ -148,7 +145,7 @@ pub record DemandTwo : Type 1 where
   -- an accepted fit by a count is the final fit with as many neighbours as the count becomes
   pub by_count_lem : (d : Data) (p : ℕ) (c : GwrCriterion) (kernel : GwrKernel) (k : ℕ) (out : List Float) →
       let u = setup_of d p (by_count c kernel k) in
-      NoneOf (fit_tests d p (by_count c kernel k) (length out)) → gwr_fit d p (by_count c kernel k) out ≡ final_of u d (AdaptiveKnn (resolve_count k u.n p)) 0 out
+      NoneOf (fit_tests d p (by_count c kernel k) (length out)) → gwr_fit d p (by_count c kernel k) out ≡ fitted (final_of u d (AdaptiveKnn (resolve_count k u.n p)) 0 out)
   -- 02: equality with `gwr_fit` is judged by handing it the resolved count. A fit by a count is the fit by what the count becomes, accepted or refused
   pub count_named : (d : Data) (p : ℕ) (c : GwrCriterion) (kernel : GwrKernel) (k : ℕ) (out : List Float)
       → gwr_fit d p (by_count c kernel k) out ≡ gwr_fit d p (by_count c kernel (resolve_count k (setup_of d p (by_count c kernel k)).n p)) out
@@ -158,7 +155,7 @@ pub record DemandTwo : Type 1 where
   pub aicc_formula_lem : (u : Setup) (rss trace : Float) →
       let sigma = deviation rounded root (from_count u.n) rss in
       T (finite sigma) → T (not (le sigma zero64)) → T (not (exhausted u.options.criterion (freedom rounded (from_count u.n) trace)))
-      → corrected_aic u rss trace ≡ criterion.Value (aicc_formula rounded pi64 lnv (from_count u.n) sigma trace)
+      → corrected_aic u rss trace ≡ Ok (aicc_formula rounded pi64 lnv (from_count u.n) sigma trace)
   -- 000's order is that of the publication where a product and a quotient may change places, as exact fractions do, whatever stands for π and ln
   pub aicc_order : (pi : Fraction) (ln : Fraction → Fraction) (n sigma trace : Fraction)
       → aicc_published exact pi ln n sigma trace ≡ aicc_formula exact pi ln n sigma trace
@@ -166,15 +163,15 @@ pub record DemandTwo : Type 1 where
   pub aicc_zero : (u : Setup) (rss trace : Float) →
       let sigma = deviation rounded root (from_count u.n) rss in
       T (finite sigma) → T (le sigma zero64) → T (not (exhausted u.options.criterion (freedom rounded (from_count u.n) trace)))
-      → corrected_aic u rss trace ≡ criterion.Value (aicc_formula rounded pi64 lnv (from_count u.n) least_normal trace)
-  pub aicc_exhausted : (u : Setup) (rss trace : Float) → T (finite (deviation rounded root (from_count u.n) rss)) → T (exhausted u.options.criterion (freedom rounded (from_count u.n) trace)) → corrected_aic u rss trace ≡ criterion.Value inf64
-  pub aicc_refused : (u : Setup) (rss trace : Float) → T (not (finite (deviation rounded root (from_count u.n) rss))) → corrected_aic u rss trace ≡ criterion.Refused DeviationNotFinite
+      → corrected_aic u rss trace ≡ Ok (aicc_formula rounded pi64 lnv (from_count u.n) least_normal trace)
+  pub aicc_exhausted : (u : Setup) (rss trace : Float) → T (finite (deviation rounded root (from_count u.n) rss)) → T (exhausted u.options.criterion (freedom rounded (from_count u.n) trace)) → corrected_aic u rss trace ≡ Ok inf64
+  pub aicc_refused : (u : Setup) (rss trace : Float) → T (not (finite (deviation rounded root (from_count u.n) rss))) → corrected_aic u rss trace ≡ Err DeviationNotFinite
   -- 02: guarded is unguarded wherever D is not below -EPS
   pub guard_same : (u : Setup) (rss trace : Float) → T (not (lt (freedom rounded (from_count u.n) trace) (neg eps64))) → corrected_aic (under Guarded u) rss trace ≡ corrected_aic (under Unguarded u) rss trace
   -- where it is, and 17 is not met, guarded is +infinity and unguarded never is
   pub guard_differs : (u : Setup) (rss trace : Float) → Sized u → T (finite (deviation rounded root (from_count u.n) rss)) → T (lt (freedom rounded (from_count u.n) trace) (neg eps64))
-      → (corrected_aic (under Guarded u) rss trace ≡ criterion.Value inf64) × (corrected_aic (under Unguarded u) rss trace ≡ criterion.Value inf64 → ⊥)
+      → (corrected_aic (under Guarded u) rss trace ≡ Ok inf64) × (corrected_aic (under Unguarded u) rss trace ≡ Ok inf64 → ⊥)
   -- a D that is NaN is worked as it falls, to NaN, by either
-  pub guard_nan : (u : Setup) (rss trace : Float) → T (finite (deviation rounded root (from_count u.n) rss)) → freedom rounded (from_count u.n) trace ≡ nan → corrected_aic u rss trace ≡ criterion.Value nan
+  pub guard_nan : (u : Setup) (rss trace : Float) → T (finite (deviation rounded root (from_count u.n) rss)) → freedom rounded (from_count u.n) trace ≡ nan → corrected_aic u rss trace ≡ Ok nan
   -- byte calls and `gwrprint` know no other than unguarded
   pub bytes_unguarded : (kernel kind bandwidth : ℕ) → (named (options_of kernel kind bandwidth)).criterion ≡ Unguarded

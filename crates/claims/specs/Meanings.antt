@@ -1,9 +1,10 @@
 -- What the tests of demand 1's lists mean, one law for each kind of test. Definitions only.
-use Rattle.std.specs.Prelude.{ℕ, ◌*◌, ◌≤◌, ◌<◌, ◌≡◌, Bool, true, not, ◌&&◌, ◌||◌, List, ◌⊎◌, T, eqb, leb, ltb, length, get_or, Float}
+use Rattle.refusal.specs.declared.Refusal.{Refusal}
+use Rattle.std.specs.Prelude.{ℕ, ◌*◌, ◌≤◌, ◌<◌, ◌≡◌, Bool, true, not, ◌&&◌, ◌||◌, List, ◌⊎◌, T, eqb, leb, ltb, length, get_or, Float, Result}
 use Rattle.std.specs.Float.{nan}
 use Rattle.std.specs.Float.Ieee.{lt, le, is_nan}
 use Rattle.std.specs.Float.Ieee.Scale.{finite}
-use Rattle.claims.specs.Words.{zero64, all_finite, Row, Matrix, Means, GwrBandwidth, GwrOptions, Setup, Trusts, Data, trust_count, inverse_cell, inverse_finite, coefficients_finite, Criterion, greatest_distance, trusts_fit, lengths_fit, unusable_given, nothing_between, SomeNotFinite, BadTrust, UnusableGiven, NothingBetween, Stage, Ended, is_ended, OfKind, kinds_fit, is_unknown, options_of}
+use Rattle.claims.specs.Words.{zero64, all_finite, Row, Matrix, Means, GwrBandwidth, GwrOptions, Setup, Trusts, Data, trust_count, inverse_cell, inverse_finite, coefficients_finite, greatest_distance, trusts_fit, lengths_fit, unusable_given, nothing_between, SomeNotFinite, BadTrust, UnusableGiven, NothingBetween, Stage, Ended, is_ended, OfKind, kinds_fit, is_unknown, options_of}
 
 -- P of some number below m
 abbrev pub Some : ℕ → (ℕ → Type 0) → Type 0
@@ -39,6 +40,6 @@ pub record Meanings : Type 0 where
   -- 19: its bandwidth is of the options' kind, a count from 1 to 512; the rest of a fit record is made of the laws above
   pub kinds : (kind b : GwrBandwidth) → Means (kinds_fit kind b) (OfKind kind b)
   -- 20
-  pub ended : (x : Stage) → Means (is_ended x) ((c : Criterion) × (x ≡ Ended c))
+  pub ended : (x : Stage) → Means (is_ended x) ((c : Result Float Refusal) × (x ≡ Ended c))
   -- 21
   pub lengths : (u : Setup) (d : Data) → Means (lengths_fit u d) ((length d.coords ≡ 2 * u.n) × ((length d.predictors ≡ u.n * u.p) × ((length d.responses ≡ u.n) × (trust_count d ≡ u.n))))

@@ -1,23 +1,22 @@
 -- What demand 3 says of the uninterrupted fit: its solve count, its final bandwidth and its trials. Definitions only.
-use Rattle.std.specs.Prelude.{ℕ, zero, suc, ◌≡◌, cond, List, [], ◌∷◌, ◌++◌, T, Float}
+use Rattle.refusal.specs.declared.Refusal.{Refusal}
+use Rattle.gwr.specs.declared.Fit.{Fit}
+use Rattle.std.specs.Prelude.{ℕ, zero, suc, ◌≡◌, cond, List, [], ◌∷◌, ◌++◌, T, Float, Result, Ok, Err}
 use Rattle.std.specs.Float.{binary64}
 use Rattle.std.specs.Float.Ieee.{lt, le, of_bits}
-use Rattle.claims.specs.Words.{magnitude, GwrBandwidth, Data, Setup, Plan, bandwidth_at, Trial, trial_of, Variables, loop_body, before_loop, golden_section_min, FitAnswer, Answer}
+use Rattle.claims.specs.Words.{magnitude, GwrBandwidth, Data, Setup, Plan, bandwidth_at, Trial, trial_of, Variables, loop_body, before_loop, golden_section_min, Answer}
 use Rattle.plan.specs.declared.Plan.TheVariants as plan
-use Rattle.sweep.specs.declared.Finish.TheVariants as finish
-use Rattle.gwr.specs.declared.FitAnswer.TheVariants as fit
 use Rattle.job.specs.declared.Answer.TheVariants as answer
 
 -- 01: the solve count is the number of local solves in all sweeps, failing ones included; the fit's summary has it
-abbrev pub count_of : FitAnswer → ℕ
-count_of (fit.Done (finish.Fitted s)) = s.solves
-count_of (fit.Done (finish.Failed r s)) = s.solves
-count_of (fit.Rejected r) = 0
+abbrev pub count_of : Result Fit Refusal → ℕ
+count_of (Ok f) = f.finish.summary.solves
+count_of (Err r) = 0
 
 -- 01: a turn answers ended with the summary and any refusal: those of the fit
-abbrev pub ended_with : FitAnswer → Answer
-ended_with (fit.Done f) = answer.Ended f
-ended_with (fit.Rejected r) = answer.Refused r
+abbrev pub ended_with : Result Fit Refusal → Answer
+ended_with (Ok f) = answer.Ended f.finish
+ended_with (Err r) = answer.Refused r
 
 -- 01: the final fit is at the point `golden_section_min` finds, at lo (L) if a search has no trial, and unsearched at the given distance or count; the plan has all but the first
 -- its bandwidth, and the solves made before it

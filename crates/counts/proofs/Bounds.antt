@@ -1,5 +1,5 @@
--- A count is the chosen one by whether it is given, and a resolved one is from 1 to 512. Assumes nothing.
-use mathlib.Core.Path.{◌≡◌, sym, ◌∙◌, ap}
+-- The default count and a count that is given are the chosen ones, and a resolved one is from 1 to 512. Assumes nothing.
+use mathlib.Core.Path.{◌≡◌, sym, ap, ◌∙◌}
 use Prim.Native.Nat.{ℕ, ◌+◌, ◌≤◌, max}
 use native.Mathlib.Omega.{arith}
 use borrow.Author.Tests.{eq-eqb, ne_eqb}

@@ -1,9 +1,10 @@
--- `ceil_root n` is the least whole number whose square is at least n, and the loop of `ceil_root` finds it. Assumes nothing.
+-- `ceil_root n` is the least whole number whose square is at least n: the whole root of n or the next. Assumes nothing.
 use mathlib.Core.Path.{◌≡◌, refl, sym}
 use mathlib.Core.Bool.{Bool, true, false, cond}
 use mathlib.Core.Logic.{inl, inr}
 use Prim.Native.Nat.{ℕ, zero, suc, ◌+◌, ◌*◌, ◌≤◌, ◌<◌}
-use native.Mathlib.Nat.{mul-le-mul, le-mul_of_pos_right, not-suc-le-zero, eq-or-lt_of_le, lt_irrefl, lt_of_lt_of_le}
+use native.Mathlib.Nat.{mul-le-mul, le-mul_of_pos_right, not-suc-le-zero, eq-or-lt_of_le, lt_irrefl, lt_of_lt_of_le, lt_of_le_of_lt, le_of_lt}
+use Rattle.std.proofs.lemmas.Nat.{mul-lt}
 use native.Mathlib.Numerals.{add-one}
 use native.Mathlib.Omega.{arith, min_cases}
 use borrow.Author.Tests.{ltb-true, ltb-false}
@@ -11,18 +12,18 @@ use lib.Dec.{ltb}
 use Rattle.counts.specs.Count.{root_from, ceil_root, LeastRoot}
 
 -- the square of no number below r reaches n
-pub record Raising (n r : ℕ) : Type 0 where
-  pub below : (s : ℕ) → s < r → s * s < n
-  pub high : r ≤ n
+record Raising (n r : ℕ) : Type 0 where
+  below : (s : ℕ) → s < r → s * s < n
+  high : r ≤ n
 
-pub square_above : (r : ℕ) → r ≤ r * r
+square_above : (r : ℕ) → r ≤ r * r
 square_above zero = omega arith
 square_above (suc r) = le-mul_of_pos_right (suc r) (omega arith)
 
-pub raising : (n : ℕ) → Raising n 0
+raising : (n : ℕ) → Raising n 0
 raising n = record { below = λ s h. absurd (not-suc-le-zero h); high = omega arith }
 
-pub higher : {n r : ℕ} → Raising n r → r * r < n → Raising n (r + 1)
+higher : {n r : ℕ} → Raising n r → r * r < n → Raising n (r + 1)
 higher {n} {r} p h = record { below = go; high = omega (arith, square_above r) }
   where
     the_le : (s : ℕ) → s < r + 1 → s ≤ r
@@ -35,7 +36,7 @@ higher {n} {r} p h = record { below = go; high = omega (arith, square_above r) }
           | inr g ↦ p.below s g
         ]
 
-pub root_from_least : (n m r : ℕ) → Raising n r → n ≤ r + m → LeastRoot n (root_from n m r)
+root_from_least : (n m r : ℕ) → Raising n r → n ≤ r + m → LeastRoot n (root_from n m r)
 unfolding root_from
 root_from_least n zero r p h = record { reaches = omega (arith, square_above r); least = p.below }
 root_from_least n (suc m) r p h = go (ltb (r * r) n) refl (λ q. root_from_least n m (suc r) q (omega arith))
@@ -59,9 +60,13 @@ least_root_only n a b p q = min_cases a b (a ≡ b) (λ h _. within a b p q h) (
           | inr g ↦ absurd (lt_irrefl (a * a) (lt_of_lt_of_le (q.least a g) p.reaches))
         ]
 
-pub rooted : {n r : ℕ} → Raising n r → n ≤ r * r → r ≡ ceil_root n
-rooted {n} {r} p h = least_root_only n r (ceil_root n) record { reaches = h; least = p.below } (ceil_root_least n)
+-- it is r, the largest whole number whose square is at most n, where that square is n
+pub root_reached : (n r : ℕ) → r * r ≤ n → n ≤ r * r → r ≡ ceil_root n
+root_reached n r h k = least_root_only n r (ceil_root n) record { reaches = k; least = λ s l. lt_of_lt_of_le (mul-lt s s r r l l) h } (ceil_root_least n)
 
--- a square that fits
-pub small : {r : ℕ} → r ≤ 512 → r * r ≤ 262144
-small {r} h = mul-le-mul h h
+-- and else the next
+pub root_passed : (n r : ℕ) → r * r < n → n < (r + 1) * (r + 1) → r + 1 ≡ ceil_root n
+root_passed n r h k = least_root_only n (r + 1) (ceil_root n) record { reaches = le_of_lt k; least = λ s l. lt_of_le_of_lt (mul-le-mul (within s l) (within s l)) h } (ceil_root_least n)
+  where
+    within : (s : ℕ) → s < r + 1 → s ≤ r
+    within s l = omega arith

@@ -18,9 +18,9 @@ use Rattle.setup.specs.declared.GwrCriterion.TheVariants.{Unguarded, Guarded}
 use Rattle.setup.specs.declared.Setup.{Setup}
 use Rattle.setup.specs.Options.{under}
 use Rattle.setup.specs.Shape.{Sized}
+use Rattle.refusal.specs.declared.Refusal.{Refusal}
 use Rattle.refusal.specs.declared.Refusal.TheVariants.{DeviationNotFinite}
-use Rattle.criterion.specs.declared.Criterion.{Criterion}
-use Rattle.criterion.specs.declared.Criterion.TheVariants.{Value, Refused}
+use Rattle.std.specs.Prelude.{Result, Ok, Err}
 use Rattle.criterion.specs.Aicc.{pi64, floored, exhausted, criterion_of, corrected_aic}
 use Rattle.criterion.specs.Published.{deviation, freedom, aicc_formula}
 use Rattle.criterion.proofs.Published.{sigma_normal, aicc_exhausted}
@@ -90,29 +90,29 @@ module _ (u : Setup) (rss trace : Float) where
   -- D not below -EPS, a NaN among them: no difference
   pub guard_same : T (not (lt d (neg eps64))) → corrected_aic (under Guarded u) rss trace ≡ corrected_aic (under Unguarded u) rss trace
   unfolding corrected_aic criterion_of
-  guard_same h = ap (λ (b : Bool). cond (finite sigma) (Value (cond b inf64 (aicc_formula rounded pi64 lnv (from_count n) (floored sigma) trace))) (Refused DeviationNotFinite)) (same_test d h)
+  guard_same h = ap (λ (b : Bool). cond (finite sigma) (Ok (cond b inf64 (aicc_formula rounded pi64 lnv (from_count n) (floored sigma) trace))) (Err DeviationNotFinite)) (same_test d h)
 
   floored_ln : T (finite sigma) → LnFinite (floored sigma)
   unfolding floored
   floored_ln f = by_test LnFinite (le sigma zero64) least_normal sigma (λ _. least_normal_lem) (λ e. (sigma_normal (under Guarded u) rss trace f (subst (λ (b : Bool). T (not b)) (sym e) tt)).1)
 
-  unguarded_value : T (finite sigma) → T (lt d (neg eps64)) → corrected_aic (under Unguarded u) rss trace ≡ Value (aicc_formula rounded pi64 lnv (from_count n) (floored sigma) trace)
+  unguarded_value : T (finite sigma) → T (lt d (neg eps64)) → corrected_aic (under Unguarded u) rss trace ≡ Ok (aicc_formula rounded pi64 lnv (from_count n) (floored sigma) trace)
   unfolding corrected_aic criterion_of
   unguarded_value f h = rw (is_true (finite sigma) f, is_false (exhausted Unguarded d) (below_unguarded d h))
 
   -- D below -EPS, and 17 not met: guarded is plus infinity, and unguarded never
   pub guard_differs : Sized u → T (finite sigma) → T (lt d (neg eps64))
-      → (corrected_aic (under Guarded u) rss trace ≡ Value inf64) × (corrected_aic (under Unguarded u) rss trace ≡ Value inf64 → ⊥)
+      → (corrected_aic (under Guarded u) rss trace ≡ Ok inf64) × (corrected_aic (under Unguarded u) rss trace ≡ Ok inf64 → ⊥)
   guard_differs s f h = (
     aicc_exhausted (under Guarded u) rss trace f (below_guarded d h),
     λ e. never_infinite n (floored sigma) trace (omega (arith, s.enough)) s.few (floored_ln f) (below_nought d h) (ap value_of (sym (unguarded_value f h) ∙ e)),
   )
     where
-      value_of : Criterion → Float
-      value_of (Value v) = v
-      value_of (Refused r) = nan
+      value_of : Result Float Refusal → Float
+      value_of (Ok v) = v
+      value_of (Err r) = nan
 
   -- D a NaN, and 17 not met: worked as it falls, to NaN, by either
-  pub guard_nan : T (finite sigma) → d ≡ nan → corrected_aic u rss trace ≡ Value nan
+  pub guard_nan : T (finite sigma) → d ≡ nan → corrected_aic u rss trace ≡ Ok nan
   unfolding corrected_aic criterion_of aicc_formula
   guard_nan f e = rw (is_true (finite sigma) f, e, no_number u.options.criterion, over_nan (mul binary64 (from_count n) (add binary64 (from_count n) trace)), plus_nan (add binary64 (mul binary64 (mul binary64 two64 (from_count n)) (lnv (floored sigma))) (mul binary64 (from_count n) (lnv (mul binary64 two64 pi64)))))

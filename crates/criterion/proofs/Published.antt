@@ -17,7 +17,7 @@ use Rattle.elementary.proofs.LnRange.{ln_finite}
 use Rattle.setup.specs.declared.GwrCriterion.{GwrCriterion}
 use Rattle.setup.specs.declared.Setup.{Setup}
 use Rattle.refusal.specs.declared.Refusal.TheVariants.{DeviationNotFinite}
-use Rattle.criterion.specs.declared.Criterion.TheVariants.{Value, Refused}
+use Rattle.std.specs.Prelude.{Ok, Err}
 use Rattle.criterion.specs.Aicc.{pi64, floored, exhausted, criterion_of, corrected_aic}
 use Rattle.criterion.specs.Published.{deviation, freedom, aicc_published, aicc_formula}
 
@@ -144,21 +144,21 @@ module _ (u : Setup) (rss trace : Float) where
       ]
 
   -- σ̂ finite and above 0, D not exhausted: the published formula, each operation rounded once
-  pub aicc_rounded : T (finite sigma) → T (not (le sigma zero64)) → T (not (exhausted criterion (freedom rounded (from_count n) trace))) → corrected_aic u rss trace ≡ Value (aicc_formula rounded pi64 lnv (from_count n) sigma trace)
+  pub aicc_rounded : T (finite sigma) → T (not (le sigma zero64)) → T (not (exhausted criterion (freedom rounded (from_count n) trace))) → corrected_aic u rss trace ≡ Ok (aicc_formula rounded pi64 lnv (from_count n) sigma trace)
   unfolding corrected_aic criterion_of floored
   aicc_rounded f p d = rw (is_true (finite sigma) f, is_false (exhausted criterion (freedom rounded (from_count n) trace)) d, is_false (le sigma zero64) p)
 
   -- σ̂ not finite: refusal 17
-  pub aicc_refused : T (not (finite sigma)) → corrected_aic u rss trace ≡ Refused DeviationNotFinite
+  pub aicc_refused : T (not (finite sigma)) → corrected_aic u rss trace ≡ Err DeviationNotFinite
   unfolding corrected_aic
   aicc_refused f = rw (is_false (finite sigma) f)
 
   -- D exhausted, |D| ≤ EPS or guarded D ≤ EPS: plus infinity
-  pub aicc_exhausted : T (finite sigma) → T (exhausted criterion (freedom rounded (from_count n) trace)) → corrected_aic u rss trace ≡ Value (inf false)
+  pub aicc_exhausted : T (finite sigma) → T (exhausted criterion (freedom rounded (from_count n) trace)) → corrected_aic u rss trace ≡ Ok (inf false)
   unfolding corrected_aic criterion_of
   aicc_exhausted f d = rw (is_true (finite sigma) f, is_true (exhausted criterion (freedom rounded (from_count n) trace)) d)
 
   -- σ̂ of 0: the formula with 2^-1022 for σ̂
-  pub aicc_floored : T (finite sigma) → T (le sigma zero64) → T (not (exhausted criterion (freedom rounded (from_count n) trace))) → corrected_aic u rss trace ≡ Value (aicc_formula rounded pi64 lnv (from_count n) least_normal trace)
+  pub aicc_floored : T (finite sigma) → T (le sigma zero64) → T (not (exhausted criterion (freedom rounded (from_count n) trace))) → corrected_aic u rss trace ≡ Ok (aicc_formula rounded pi64 lnv (from_count n) least_normal trace)
   unfolding corrected_aic criterion_of floored
   aicc_floored f p d = rw (is_true (finite sigma) f, is_false (exhausted criterion (freedom rounded (from_count n) trace)) d, is_true (le sigma zero64) p)

@@ -1,5 +1,5 @@
 -- The corrected Akaike information criterion, as `corrected_aic` of 000 and the paragraph 'AICc' of 01 have it. Definitions only.
-use Rattle.std.specs.Prelude.{ℕ, Bool, cond, from_bits, Float}
+use Rattle.std.specs.Prelude.{ℕ, Bool, cond, from_bits, Float, Result, Ok, Err}
 use Rattle.std.specs.Float.{binary64}
 use Rattle.std.specs.Float.Ieee.{le}
 use Rattle.std.specs.Float.Ieee.Scale.{finite}
@@ -10,9 +10,8 @@ use Rattle.elementary.specs.Ln.{lnv}
 use Rattle.setup.specs.declared.GwrCriterion.{GwrCriterion}
 use Rattle.setup.specs.declared.GwrCriterion.TheVariants.{Unguarded, Guarded}
 use Rattle.setup.specs.declared.Setup.{Setup}
+use Rattle.refusal.specs.declared.Refusal.{Refusal}
 use Rattle.refusal.specs.declared.Refusal.TheVariants.{DeviationNotFinite}
-use Rattle.criterion.specs.declared.Criterion.{Criterion}
-use Rattle.criterion.specs.declared.Criterion.TheVariants.{Value, Refused}
 use Rattle.criterion.specs.declared.Summary.{Summary}
 use Rattle.criterion.specs.Published.{deviation, freedom, aicc_formula}
 
@@ -34,15 +33,15 @@ unfoldable pub criterion_of : GwrCriterion → Float → Float → Float → Flo
 criterion_of c nf sigma trace = cond (exhausted c (freedom rounded nf trace)) inf64 (aicc_formula rounded pi64 lnv nf (floored sigma) trace)
 
 -- 000's `corrected_aic`, of a job's setup, the sum of squared residuals and the trace; refusal 17 where the root of mean square is not finite
-unfoldable pub corrected_aic : Setup → Float → Float → Criterion
+unfoldable pub corrected_aic : Setup → Float → Float → Result Float Refusal
 corrected_aic u rss trace =
     let sigma = deviation rounded root (from_count u.n) rss in
-    cond (finite sigma) (Value (criterion_of u.options.criterion (from_count u.n) sigma trace)) (Refused DeviationNotFinite)
+    cond (finite sigma) (Ok (criterion_of u.options.criterion (from_count u.n) sigma trace)) (Err DeviationNotFinite)
 
 -- 000's `evaluate_aicc`: a trial's score is its AICc, or +infinity if AICc is refused or not finite
-unfoldable pub score_of : Criterion → Float
-score_of (Value v) = cond (finite v) v inf64
-score_of (Refused r) = inf64
+unfoldable pub score_of : Result Float Refusal → Float
+score_of (Ok v) = cond (finite v) v inf64
+score_of (Err r) = inf64
 
 -- 01, 'Met while solving': the summary is zeros but for the solve count
 abbrev pub failed_summary : ℕ → Summary

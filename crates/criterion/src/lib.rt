@@ -10,12 +10,6 @@ ghost use Rattle.criterion.specs.Aicc.{pi64, corrected_aic, criterion_of, exhaus
 use refusal::Refusal;
 use setup::{GwrCriterion, Setup};
 
-#[derive(Clone, Copy)]
-pub enum Criterion {
-    Value(f64),
-    Refused(Refusal),
-}
-
 // What a fit reports beside its rows.
 #[derive(Clone, Copy)]
 pub struct Summary {
@@ -37,36 +31,27 @@ impl Summary {
     }
 }
 
-impl Criterion {
-    // A trial's score: its AICc, or plus infinity where that is refused or not finite.
-    pub fn score(self) -> f64
-        ensures { result ≡ score_of self }
-    {
-        match self {
-            Criterion::Value(v) => {
-                if real::is_finite(v) {
-                    return v;
-                }
-                real::infinity()
-            }
-            Criterion::Refused(_) => real::infinity(),
-        }
+// A trial's score: its AICc, or plus infinity where that is refused or not finite.
+pub fn score_of(ending: Result<f64, Refusal>) -> f64
+    ensures { result ≡ score_of ending }
+{
+    match ending {
+        Ok(aicc) if real::is_finite(aicc) => aicc,
+        _ => f64::INFINITY,
     }
 }
 
 // AICc of n observations from the sum of squared residuals and the trace of the hat matrix.
-pub fn corrected_aic(u: Setup, rss: f64, trace: f64) -> Criterion
+pub fn corrected_aic(u: Setup, rss: f64, trace: f64) -> Result<f64, Refusal>
     requires { u.n < 2 ^ 32 }
     ensures { result ≡ corrected_aic u rss trace }
 {
     let nf = real::from_count(u.n);
     let sigma = root::sqrt(rss / nf);
     if real::is_finite(sigma) {
-        let options = u.options;
-        let criterion = options.criterion;
-        return Criterion::Value(criterion_of(criterion, nf, sigma, trace));
+        return Ok(criterion_of(u.options.criterion, nf, sigma, trace));
     }
-    Criterion::Refused(Refusal::DeviationNotFinite)
+    Err(Refusal::DeviationNotFinite)
 }
 
 // AICc of n observations from the root of mean square and the trace: plus infinity where no degree of freedom is left.
@@ -75,7 +60,7 @@ fn criterion_of(criterion: GwrCriterion, nf: f64, sigma: f64, trace: f64) -> f64
 {
     let d = (nf - 2.0) - trace;
     if is_exhausted(criterion, d) {
-        return real::infinity();
+        return f64::INFINITY;
     }
     aicc_formula(nf, floored(sigma), trace, d)
 }
@@ -85,8 +70,8 @@ fn is_exhausted(criterion: GwrCriterion, d: f64) -> bool
     ensures { result ≡ exhausted criterion d }
 {
     match criterion {
-        GwrCriterion::Unguarded => real::abs(d) <= 2.220446049250313e-16,
-        GwrCriterion::Guarded => d <= 2.220446049250313e-16,
+        GwrCriterion::Unguarded => real::abs(d) <= f64::EPSILON,
+        GwrCriterion::Guarded => d <= f64::EPSILON,
     }
 }
 
@@ -95,7 +80,7 @@ fn floored(sigma: f64) -> f64
     ensures { result ≡ floored sigma }
 {
     if sigma <= 0.0 {
-        2.2250738585072014e-308
+        f64::MIN_POSITIVE
     } else {
         sigma
     }

@@ -1,4 +1,4 @@
--- The coefficients are 8 numbers, found or not.
+-- The coefficients, where they are found, are 8 numbers.
 use mathlib.Core.Path.{◌≡◌, refl, ◌∙◌}
 use Prim.Native.Nat.{ℕ}
 use native.Mathlib.Omega.{arith}
@@ -10,14 +10,18 @@ use Rattle.real.proofs.Fold.{kept}
 use Rattle.setup.specs.declared.Setup.{Setup}
 use Rattle.setup.specs.Data.{Data}
 use Rattle.real.specs.Matrix.{Row, Matrix}
-use Rattle.estimate.specs.declared.Estimated.{Estimated}
+use Rattle.std.specs.Prelude.{Option, None, Some, Result, Ok, Err}
+use Rattle.refusal.specs.declared.Refusal.{Refusal}
+use Rattle.estimate.specs.declared.Coefficients.{Coefficients}
 use Rattle.estimate.specs.Inverse.{inverse_finite}
-use Rattle.estimate.specs.Estimate.{coefficients_finite, coefficient_step, coefficients_of, from_inverse, eliminated_of, coefficients_under, fit_coefficients}
+use Rattle.estimate.specs.Estimate.{coefficients_finite, coefficient_step, coefficients_of, from_inverse, from_eliminated, coefficients_under, fit_coefficients}
 
-abbrev Eight : Estimated → Type 0
-Eight e = length e.beta ≡ 8
+-- those that were found
+abbrev pub Eight : Result Coefficients Refusal → Type 0
+Eight (Ok c) = length c.beta ≡ 8
+Eight (Err r) = Unit {0}
 
-coefficients_eight : (a : Matrix) (rhs : Row) (m : ℕ) → length (coefficients_of a rhs m) ≡ 8
+pub coefficients_eight : (a : Matrix) (rhs : Row) (m : ℕ) → length (coefficients_of a rhs m) ≡ 8
 unfolding coefficients_of coefficient_step
 coefficients_eight a rhs m =
     kept (coefficient_step a rhs m) 0 m (λ (beta : Row). length beta ≡ 8)
@@ -28,10 +32,14 @@ from_eight : (a : Matrix) (rhs : Row) (m : ℕ) → Eight (from_inverse a rhs m)
 unfolding from_inverse
 from_eight a rhs m =
     either Eight (inverse_finite a m) _ _
-    (either Eight (coefficients_finite (coefficients_of a rhs m) m) _ _ (coefficients_eight a rhs m) refl)
-    refl
+    (either Eight (coefficients_finite (coefficients_of a rhs m) m) _ _ (coefficients_eight a rhs m) tt)
+    tt
 
-pub fit_eight : (u : Setup) (d : Data) (w : Row) (sum : Float) → length (fit_coefficients u d w sum).0.beta ≡ 8
+under_eight : (e : Option Matrix) (rhs : Row) (m : ℕ) → Eight (from_eliminated e rhs m)
+unfolding from_eliminated
+under_eight None rhs m = tt
+under_eight (Some a) rhs m = from_eight a rhs m
+
+pub fit_eight : (u : Setup) (d : Data) (w : Row) (sum : Float) → Eight (fit_coefficients u d w sum)
 unfolding coefficients_under fit_coefficients
-fit_eight u d w sum =
-    either (λ (f : Estimated × Matrix). Eight f.0) (lt zero64 sum) _ _ (either Eight (eliminated_of u d w).0 _ _ (from_eight _ _ _) refl) refl
+fit_eight u d w sum = either Eight (lt zero64 sum) _ _ (under_eight _ _ _) tt

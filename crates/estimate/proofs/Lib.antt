@@ -1,3 +1,4 @@
+pub mod Products
 pub mod Lengths
 pub mod NormalEquations
 pub mod Meanings

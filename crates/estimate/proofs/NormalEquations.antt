@@ -16,10 +16,11 @@ use borrow.Author.Tests.{eq-eqb, ne_eqb}
 use Rattle.setup.specs.declared.Setup.{Setup}
 use Rattle.setup.specs.Data.{Data}
 use Rattle.real.specs.Matrix.{Row, Matrix}
-use Rattle.normal.specs.Equations.{Equations, equations_of}
+use Rattle.normal.specs.declared.equations.Equations.{Equations}
+use Rattle.normal.specs.Equations.{equations_of}
 use Rattle.normal.specs.Augmented.{mirrored_cell}
+use Rattle.estimate.specs.declared.Coefficients.{Coefficients}
 use Rattle.estimate.specs.Inverse.{inverse_cell}
-use Rattle.estimate.specs.Estimate.{fit_coefficients}
 use Rattle.estimate.specs.NormalEquations.{power_units, units_of, units_of_one, sum_below, cell_at, design_at, moment_at, Solves, Exact, ExactFit}
 
 -- ---- the units: m · 2^e is m · power_units e of 2^-1074
@@ -187,22 +188,25 @@ module _ (m : ℕ) (u : ℤ) (A B : ℕ → ℕ → ℤ) (R beta : ℕ → ℤ)
 
 -- cell (k, q) of A, and of the inverse of the eliminated matrix a of m rows, in units
 abbrev pub matrix_at : Equations → ℕ → ℕ → ℤ
-matrix_at e k q = units_of (mirrored_cell e.0 k q)
+matrix_at e k q = units_of (mirrored_cell e.a k q)
 
 abbrev pub inverse_at : Matrix → ℕ → ℕ → ℕ → ℤ
 inverse_at a m k q = units_of (inverse_cell a m k q)
 
 -- the coefficients of an exact inverse solve the equations as computed, A β row by row
 pub inverse_solves : (u : Setup) (d : Data) (w : Row) (e : Equations) (a : Matrix) (beta : Row) → Exact u d w e a beta → (k : ℕ) → k < u.p + 1
-    → sum_below (u.p + 1) (λ q. matrix_at e k q *ℤ (cell_at beta q *ℤ units_of_one)) ≡ cell_at e.1 k *ℤ (units_of_one *ℤ units_of_one)
-inverse_solves u d w e a beta c = solved (u.p + 1) units_of_one (matrix_at e) (inverse_at a (u.p + 1)) (cell_at e.1) (cell_at beta) c.inverse c.coefficients
+    → sum_below (u.p + 1) (λ q. matrix_at e k q *ℤ (cell_at beta q *ℤ units_of_one)) ≡ cell_at e.rhs k *ℤ (units_of_one *ℤ units_of_one)
+inverse_solves u d w e a beta c = solved (u.p + 1) units_of_one (matrix_at e) (inverse_at a (u.p + 1)) (cell_at e.rhs) (cell_at beta) c.inverse c.coefficients
 
--- (XᵀWX) β = XᵀWy of an exact fit, for any number of predictors and observations
-pub normal_equations : (u : Setup) (d : Data) (w : Row) (sum : Float) → ExactFit u d w sum → Solves u d w (fit_coefficients u d w sum).0.beta
-normal_equations u d w sum c =
+-- (XᵀWX) β = XᵀWy of exact equations, inverse and coefficients, for any number of predictors and observations
+pub exact_solves : (u : Setup) (d : Data) (w : Row) (a : Matrix) (beta : Row) → Exact u d w (equations_of u d w) a beta → Solves u d w beta
+exact_solves u d w a beta c =
     let m = u.p + 1 in
     let s = equations_of u d w in
-    let f = fit_coefficients u d w sum in
     λ k h.
-    published m units_of_one (matrix_at s) (inverse_at f.1 m) (cell_at s.1) (cell_at f.0.beta) c.inverse c.coefficients
+    published m units_of_one (matrix_at s) (inverse_at a m) (cell_at s.rhs) (cell_at beta) c.inverse c.coefficients
     k (λ q. moment_at u d w (design_at u d w q) k) (moment_at u d w (cell_at d.responses) k) h (λ q l. c.matrix k q h l) (c.right k h)
+
+-- and so of an exact fit
+pub normal_equations : (u : Setup) (d : Data) (w : Row) (sum : Float) (c : Coefficients) → ExactFit u d w sum c → Solves u d w c.beta
+normal_equations u d w sum c e = exact_solves u d w c.inverse c.beta e.1

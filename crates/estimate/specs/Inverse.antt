@@ -1,5 +1,5 @@
 -- The inverse of a local fit's matrix, as 000's `invert_matrix` gives it, and whether it is finite. Definitions only.
-use Rattle.std.specs.Prelude.{ℕ, ◌+◌, ◌*◌, Bool, true, ◌&&◌, [], get_or, Float}
+use Rattle.std.specs.Prelude.{ℕ, ◌+◌, ◌*◌, Bool, true, ◌&&◌, Option, [], get_or, Float}
 use Rattle.std.specs.Float.{nan, binary64}
 use Rattle.std.specs.Float.Ieee.{add, mul}
 use Rattle.std.specs.Float.Ieee.Scale.{finite}
@@ -9,8 +9,8 @@ use Rattle.real.specs.Matrix.{Row, Matrix}
 use Rattle.normal.specs.Augmented.{augmented_matrix}
 use Rattle.gauss.specs.Gauss.{eliminated}
 
--- `invert_matrix(&a)` up to its last check, of m rows: whether a is not singular, and the eliminated [A | I]
-unfoldable pub invert_matrix : Matrix → ℕ → Bool × Matrix
+-- `invert_matrix(&a)` up to its last check, of m rows: the eliminated [A | I], none where a is singular
+unfoldable pub invert_matrix : Matrix → ℕ → Option Matrix
 invert_matrix a m = eliminated (augmented_matrix a m) m (2 * m)
 
 -- `inverse[[p, q]] = aug[[p, n + q]]`: the inverse is the right half of the eliminated matrix of m rows

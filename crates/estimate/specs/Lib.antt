@@ -1,3 +1,4 @@
+pub mod Inner
 pub mod Inverse
 pub mod Estimate
 pub mod NormalEquations

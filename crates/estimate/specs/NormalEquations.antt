@@ -1,12 +1,14 @@
 -- Fotheringham, Brunsdon and Charlton 2002: the coefficients β at a place solve (XᵀWX) β = XᵀWy. That equation with nothing rounded, and when a fit meets it. Definitions only; the theorem is in proofs/NormalEquations.
-use Rattle.std.specs.Prelude.{◌≡◌, true, false, cond, ℕ, zero, suc, ◌+◌, ◌-◌, ◌*◌, ◌^◌, ◌<◌, eqb, ℤ, pos, negsuc, neg_ℤ, ◌+ℤ◌, ◌*ℤ◌, get_or, Float}
+use Rattle.std.specs.Prelude.{◌≡◌, true, false, cond, ℕ, zero, suc, ◌+◌, ◌-◌, ◌*◌, ◌^◌, ◌<◌, eqb, ℤ, pos, negsuc, neg_ℤ, ◌+ℤ◌, ◌*ℤ◌, get_or, Ok, Float}
 use Rattle.std.specs.Float.{nan, inf, fin}
 use Rattle.setup.specs.declared.Setup.{Setup}
 use Rattle.setup.specs.Data.{Data}
 use Rattle.real.specs.Matrix.{Row, Matrix}
+use Rattle.normal.specs.declared.equations.Equations.{Equations}
 use Rattle.normal.specs.Design.{design_row}
-use Rattle.normal.specs.Equations.{Equations, equations_of}
+use Rattle.normal.specs.Equations.{equations_of}
 use Rattle.normal.specs.Augmented.{mirrored_cell}
+use Rattle.estimate.specs.declared.Coefficients.{Coefficients}
 use Rattle.estimate.specs.Inverse.{inverse_cell}
 use Rattle.estimate.specs.Estimate.{fit_coefficients}
 
@@ -53,12 +55,12 @@ module _ (u : Setup) (d : Data) (w : Row) where
 
   -- of the equations e, the inverse of the eliminated matrix a and β nothing was rounded: A = XᵀWX, its right-hand side is XᵀWy, A A⁻¹ = I, and β is A⁻¹ times the right-hand side
   pub record Exact (e : Equations) (a : Matrix) (beta : Row) : Type 0 where
-    pub matrix : (k q : ℕ) → k < u.p + 1 → q < u.p + 1 → moment_at (design_at q) k ≡ units_of (mirrored_cell e.0 k q) *ℤ units_of_one *ℤ units_of_one
-    pub right : (k : ℕ) → k < u.p + 1 → moment_at (cell_at d.responses) k ≡ cell_at e.1 k *ℤ units_of_one *ℤ units_of_one
+    pub matrix : (k q : ℕ) → k < u.p + 1 → q < u.p + 1 → moment_at (design_at q) k ≡ units_of (mirrored_cell e.a k q) *ℤ units_of_one *ℤ units_of_one
+    pub right : (k : ℕ) → k < u.p + 1 → moment_at (cell_at d.responses) k ≡ cell_at e.rhs k *ℤ units_of_one *ℤ units_of_one
     pub inverse : (k r : ℕ) → k < u.p + 1 → r < u.p + 1
-        → sum_below (u.p + 1) (λ q. units_of (mirrored_cell e.0 k q) *ℤ units_of (inverse_cell a (u.p + 1) q r)) ≡ cond (eqb k r) (units_of_one *ℤ units_of_one) (pos 0)
-    pub coefficients : (q : ℕ) → q < u.p + 1 → sum_below (u.p + 1) (λ r. units_of (inverse_cell a (u.p + 1) q r) *ℤ cell_at e.1 r) ≡ cell_at beta q *ℤ units_of_one
+        → sum_below (u.p + 1) (λ q. units_of (mirrored_cell e.a k q) *ℤ units_of (inverse_cell a (u.p + 1) q r)) ≡ cond (eqb k r) (units_of_one *ℤ units_of_one) (pos 0)
+    pub coefficients : (q : ℕ) → q < u.p + 1 → sum_below (u.p + 1) (λ r. units_of (inverse_cell a (u.p + 1) q r) *ℤ cell_at e.rhs r) ≡ cell_at beta q *ℤ units_of_one
 
-  -- those of the fit under weights with this sum are such
-  abbrev pub ExactFit : Float → Type 0
-  ExactFit sum = Exact (equations_of u d w) (fit_coefficients u d w sum).1 (fit_coefficients u d w sum).0.beta
+  -- the fit under weights with this sum has such coefficients
+  abbrev pub ExactFit : Float → Coefficients → Type 0
+  ExactFit sum c = (fit_coefficients u d w sum ≡ Ok c) × Exact (equations_of u d w) c.inverse c.beta

@@ -1,13 +1,12 @@
 // What a fit says of the location that it was made for: prediction, residual, local R² and leverage.
 #![tactic(auto)]
 
-ghost use Rattle.std.specs.Prelude.{◌≡◌, ◌+◌, ◌*◌, ◌≤◌, ◌<◌, length};
-ghost use Rattle.setup.specs.Data.{data_of};
-ghost use Rattle.setup.specs.Shape.{Shaped};
-ghost use Rattle.normal.specs.Design.{design_row};
+ghost use Rattle.std.specs.Prelude.{◌≡◌, ◌+◌, ◌≤◌, ◌<◌, length};
+ghost use Rattle.normal.specs.Design.{design_of};
 ghost use Rattle.evaluate.specs.Evaluate.{inner_product, hat_diagonal, add_squares, sum_squares, explained_share, local_r_squared, values_at};
 
-use setup::Setup;
+use estimate::Coefficients;
+use setup::Problem;
 
 // What a local solve gives beside the coefficients.
 #[derive(Clone, Copy)]
@@ -25,16 +24,12 @@ pub struct Squares {
     pub residual: f64,
 }
 
-// The fitted value of observation j: the coefficients times its design row, read where its predictors stand.
-fn fitted(beta: &[f64; 8], x: &[f64], n: usize, p: usize, j: usize) -> f64
-    requires { (length x.now ≡ n * p) × (j < n) × (n ≤ 512) × (p ≤ 7) }
-    ensures { result ≡ inner_product beta.now (design_row x.now p j) (p + 1) }
+// The fitted value of an observation: the coefficients times its design row, read where its predictors stand.
+fn fitted(beta: &[f64; 8], own: &[f64]) -> f64
+    requires { length own.now ≤ 7 }
+    ensures { result ≡ inner_product beta.now (design_of own.now) (length own.now + 1) }
 {
-    let mut acc = 0.0 + beta[0] * 1.0;
-    for q in 0..p {
-        acc = acc + beta[q + 1] * x[j * p + q];
-    }
-    acc
+    estimate::inner_product(0.0 + beta[0] * 1.0, &beta[1..own.len() + 1], own)
 }
 
 // The i-th diagonal element of the hat matrix, from the location's design row and own weight.
@@ -43,22 +38,11 @@ fn hat_diagonal(inverse: &[[f64; 16]; 8], row: [f64; 8], own: f64, m: usize) -> 
     ensures { result ≡ hat_diagonal inverse.now row own m }
 {
     let mut quad = 0.0;
+    // An index, since `inverse_times` takes it.
     for p in 0..m {
         quad = quad + row[p] * estimate::inverse_times(inverse, p, row, m);
     }
     own * quad
-}
-
-// The sum of w[j] * y[j] in order.
-fn inner_product(w: &[f64; 512], y: &[f64], n: usize) -> f64
-    requires { (length y.now ≡ n) × (n ≤ 512) }
-    ensures { result ≡ inner_product w.now y.now n }
-{
-    let mut acc = 0.0;
-    for j in 0..n {
-        acc = acc + w[j] * y[j];
-    }
-    acc
 }
 
 // One observation's part in both sums of squares.
@@ -74,28 +58,23 @@ fn add_squares(s: Squares, w: f64, y: f64, mean: f64, fitted: f64) -> Squares
 }
 
 // Both sums of squares over observations in order, leaving out weight 0.
-fn sum_squares(
-    coords: &[f64],
-    x: &[f64],
-    y: &[f64],
-    u: Setup,
-    w: &[f64; 512],
-    beta: [f64; 8],
-    mean: f64,
-) -> Squares
-    requires { Shaped u (data_of coords.now x.now y.now) }
-    ensures { result ≡ sum_squares u (data_of coords.now x.now y.now) w.now beta mean }
+fn sum_squares(problem: &Problem<'_>, w: &[f64; 512], beta: [f64; 8], mean: f64) -> Squares
+    ensures { result ≡ sum_squares problem.now.setup problem.now.columns w.now beta mean }
 {
     let mut s = Squares {
         total: 0.0,
         residual: 0.0,
     };
+    let u = problem.setup();
+    let x = problem.predictors();
+    let y = problem.responses();
+    // An index: chunks of no predictors cannot be zipped.
     for j in 0..u.n {
-        let v = w[j];
-        if v == 0.0 {
+        if w[j] == 0.0 {
             continue;
         }
-        s = add_squares(s, v, y[j], mean, fitted(&beta, x, u.n, u.p, j));
+        let own = normal::predictors_of(x, u.n, u.p, j);
+        s = add_squares(s, w[j], y[j], mean, fitted(&beta, own));
     }
     s
 }
@@ -112,44 +91,34 @@ fn explained_share(s: Squares) -> f64
 }
 
 // 000's `local_r_squared`, of a fit with these coefficients under weights with this sum.
-fn local_r_squared(
-    coords: &[f64],
-    x: &[f64],
-    y: &[f64],
-    u: Setup,
-    w: &[f64; 512],
-    beta: [f64; 8],
-    sum: f64,
-) -> f64
-    requires { Shaped u (data_of coords.now x.now y.now) }
-    ensures { result ≡ local_r_squared u (data_of coords.now x.now y.now) w.now beta sum }
+fn local_r_squared(problem: &Problem<'_>, w: &[f64; 512], beta: [f64; 8], sum: f64) -> f64
+    ensures { result ≡ local_r_squared problem.now.setup problem.now.columns w.now beta sum }
 {
-    let mean = inner_product(w, y, u.n) / sum;
-    explained_share(sum_squares(coords, x, y, u, w, beta, mean))
+    let n = problem.setup().n;
+    let mean = estimate::inner_product(0.0, &w[..n], problem.responses()) / sum;
+    explained_share(sum_squares(problem, w, beta, mean))
 }
 
 // What the fit with these coefficients says of location i.
 pub fn values_at(
-    coords: &[f64],
-    x: &[f64],
-    y: &[f64],
-    u: Setup,
+    problem: &Problem<'_>,
     w: &[f64; 512],
     i: usize,
-    inverse: &[[f64; 16]; 8],
-    beta: [f64; 8],
+    fit: &Coefficients,
     sum: f64,
 ) -> Values
-    requires shaped { Shaped u (data_of coords.now x.now y.now) }
-    requires is_location { i < u.n }
-    ensures { result ≡ values_at u (data_of coords.now x.now y.now) w.now i inverse.now beta sum }
+    requires { i < problem.now.setup.n }
+    ensures { result ≡ values_at problem.now.setup problem.now.columns w.now i fit.now.inverse fit.now.beta sum }
 {
-    let row = normal::design_row(x, u.n, u.p, i);
-    let predicted = fitted(&beta, x, u.n, u.p, i);
+    let u = problem.setup();
+    let x = problem.predictors();
+    let y = problem.responses();
+    let row = normal::design_row(problem, i);
+    let predicted = fitted(&fit.beta, normal::predictors_of(x, u.n, u.p, i));
     Values {
         predicted,
         residual: y[i] - predicted,
-        local_r2: local_r_squared(coords, x, y, u, w, beta, sum),
-        leverage: hat_diagonal(inverse, row, w[i], u.p + 1),
+        local_r2: local_r_squared(problem, w, fit.beta, sum),
+        leverage: hat_diagonal(&fit.inverse, row, w[i], u.p + 1),
     }
 }

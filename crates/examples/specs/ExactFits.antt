@@ -7,8 +7,7 @@ use Rattle.setup.specs.declared.Setup.{Setup}
 use Rattle.setup.specs.Options.{default_options}
 use Rattle.setup.specs.Data.{Data, data_of}
 use Rattle.real.specs.Matrix.{Row}
-use Rattle.estimate.specs.declared.Estimate.TheVariants.{Fitted}
-use Rattle.estimate.specs.Estimate.{fit_coefficients}
+use Rattle.estimate.specs.declared.Coefficients.{Coefficients}
 use Rattle.estimate.specs.NormalEquations.{ExactFit, Solves}
 use Rattle.examples.specs.Examples.{whole_number}
 
@@ -31,8 +30,9 @@ family_data f = data_of [] f.x f.y
 
 -- the coefficients are found, exact, and solve the published equations
 pub record ExactlySolved (f : Family) : Type 0 where
-  pub found : (fit_coefficients (family_setup f) (family_data f) f.w f.sum).0 ≡ record { estimate = Fitted; beta = f.beta }
-  pub exact : ExactFit (family_setup f) (family_data f) f.w f.sum
+  pub coefficients : Coefficients
+  pub found : coefficients.beta ≡ f.beta
+  pub exact : ExactFit (family_setup f) (family_data f) f.w f.sum coefficients
   pub solves : Solves (family_setup f) (family_data f) f.w f.beta
 
 abbrev pub minus_one : Float

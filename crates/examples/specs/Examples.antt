@@ -1,5 +1,5 @@
 -- Document 01's eleven examples about the definitions. Definitions only; proofs/Examples proves them, by computing.
-use Rattle.std.specs.Prelude.{ℕ, ◌≡◌, true, false, List, [], ◌∷◌, pos, replicate, Float}
+use Rattle.std.specs.Prelude.{ℕ, ◌≡◌, true, false, List, [], ◌∷◌, pos, replicate, Float, Result, Ok, Err, Option, Some, None}
 use Rattle.std.specs.Float.{inf, binary64}
 use Rattle.std.specs.Float.Ieee.{neg, of_bits, of_int}
 use Rattle.real.specs.Reals.{zero64}
@@ -12,9 +12,9 @@ use Rattle.counts.specs.Count.{resolve_count}
 use Rattle.setup.specs.declared.GwrOptions.{GwrOptions}
 use Rattle.setup.specs.Data.{Data, data_of}
 use Rattle.setup.specs.Options.{unguarded}
-use Rattle.sweep.specs.declared.Finish.TheVariants as finish
-use Rattle.gwr.specs.declared.FitAnswer.{FitAnswer}
-use Rattle.gwr.specs.declared.FitAnswer.TheVariants as fit
+use Rattle.refusal.specs.declared.Refusal.{Refusal}
+use Rattle.criterion.specs.declared.Summary.{Summary}
+use Rattle.gwr.specs.declared.Fit.{Fit}
 use Rattle.gwr.specs.Fit.{gwr_fit}
 
 -- a whole number as a real
@@ -49,16 +49,21 @@ two_data = data_of two_places [] two_loads
 abbrev pub count_searched : GwrOptions
 count_searched = unguarded Bisquare (AdaptiveKnn 0) true
 
--- the bandwidth and the AICc of a fit that succeeds
-abbrev pub Reports : FitAnswer → Float → Type 0
-Reports (fit.Done (finish.Fitted s)) bandwidth = s.bandwidth ≡ bandwidth
-Reports (fit.Done (finish.Failed r s)) bandwidth = ⊥
-Reports (fit.Rejected r) bandwidth = ⊥
+-- P of the summary of a fit that succeeds
+abbrev pub Unrefused : Option Refusal → Type 0 → Type 0
+Unrefused None P = P
+Unrefused (Some r) P = ⊥
 
-abbrev pub Scores : FitAnswer → Float → Type 0
-Scores (fit.Done (finish.Fitted s)) score = s.aicc ≡ score
-Scores (fit.Done (finish.Failed r s)) score = ⊥
-Scores (fit.Rejected r) score = ⊥
+abbrev pub Succeeds : Result Fit Refusal → (Summary → Type 0) → Type 0
+Succeeds (Ok f) P = Unrefused f.finish.refusal (P f.finish.summary)
+Succeeds (Err r) P = ⊥
+
+-- its bandwidth, and its AICc
+abbrev pub Reports : Result Fit Refusal → Float → Type 0
+Reports a bandwidth = Succeeds a (λ (s : Summary). s.bandwidth ≡ bandwidth)
+
+abbrev pub Scores : Result Fit Refusal → Float → Type 0
+Scores a score = Succeeds a (λ (s : Summary). s.aicc ≡ score)
 
 pub record ElevenExamples : Type 0 where
   -- count 0 gives 1 for n = 1, 4 for n = 10, 23 for n = 512; count 100 gives 9 for n = 10; by 02 these are the values for p = 0
@@ -75,6 +80,6 @@ pub record ElevenExamples : Type 0 where
   -- ln(1) is 0
   pub ln_one : lnv (whole_number 1) ≡ whole_number 0
   -- a search with no trial: n = 2 reports 2
-  pub two_report_two : Reports (gwr_fit two_data 0 count_searched (replicate 8 zero64)).0.answer (whole_number 2)
+  pub two_report_two : Reports (gwr_fit two_data 0 count_searched (replicate 8 zero64)).0 (whole_number 2)
   -- the listing's AICc
-  pub listing_aicc : Scores (gwr_fit four_data 0 at_distance (replicate 16 zero64)).0.answer (inf false)
+  pub listing_aicc : Scores (gwr_fit four_data 0 at_distance (replicate 16 zero64)).0 (inf false)

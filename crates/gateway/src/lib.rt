@@ -21,7 +21,8 @@ pub extern "C" fn zescolumba_fit(
 ) -> u32
     ensures { (result, (out.new, summary.new)) ≡ fit_bytes coords.now x.now y.now p kernel kind bandwidth out.old summary.old }
 {
-    calls::fit_bytes(coords, x, y, p, kernel, kind, bandwidth, out, summary)
+    let answer = calls::fit_bytes(coords, x, y, p, kernel, kind, bandwidth, out, summary);
+    request::answer_number(answer)
 }
 
 // The weight of a distance at a bandwidth, both given by their bits, to 8 bytes of out. Answers the refusal's number.
@@ -29,5 +30,5 @@ pub extern "C" fn zescolumba_fit(
 pub extern "C" fn zescolumba_weight(kernel: u64, d: u64, b: u64, out: &mut [u8]) -> u32
     ensures { (result, out.new) ≡ weight_bytes kernel d b out.old }
 {
-    weighing::weight_bytes(kernel, d, b, out)
+    request::answer_number(weighing::weight_bytes(kernel, d, b, out))
 }

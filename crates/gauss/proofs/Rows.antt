@@ -1,19 +1,18 @@
 -- Rows of a matrix that stay as they are.
 use Prim.Native.Nat.{ℕ, ◌+◌, ◌<◌}
-use mathlib.Core.Path.{◌≡◌, refl, sym, subst, ap, ◌∙◌}
+use mathlib.Core.Path.{◌≡◌, refl, sym, ap, ◌∙◌}
 use mathlib.Core.Bool.{Bool, true, false, cond}
-use mathlib.Core.List.{[]}
-use lib.ListN.{get_or, set}
+use mathlib.Core.List.{[], ◌++◌}
+use native.Mathlib.Omega.{arith}
+use lib.ListN.{length, take, drop, get_or, set, take-append-drop}
+use lib.Ieee.{Float, nan}
+use Rattle.std.proofs.lemmas.List.{get_or_append_left, set-append_left}
 use lib.Seq.{set-get_or, get_or-set_other}
 use lib.Dec.{eqb}
 use borrow.Author.Tests.{eqb-false}
-use Rattle.real.proofs.Fold.{Range, more}
+use Rattle.real.proofs.Fold.{Range, none, more}
 use Rattle.real.specs.Matrix.{Matrix, Row}
-use Rattle.gauss.specs.Gauss.{swap_rows, clear_step, clear_row}
-
--- a row exchanged with itself
-pub swap_same : (a : Matrix) (i k : ℕ) → i ≡ k → a ≡ swap_rows a i k
-swap_same a i k h = subst (λ (k : ℕ). a ≡ swap_rows a i k) h (sym (rw (set-get_or a i [], set-get_or a i [])))
+use Rattle.gauss.specs.Gauss.{clear_step, clear_row}
 
 -- row i, where row k is left as it is or is another
 other : (a : Matrix) (i k : ℕ) (x : Row) (t : Bool) → eqb k i ≡ t → get_or (set a k (cond t (get_or a k []) x)) i [] ≡ get_or a i []
@@ -33,3 +32,11 @@ clearing {a₀} {a} {i} {n} {m} {k} {by} {x} c l h =
       turned = more c.turned l s;
       stays = ap (λ (z : Matrix). get_or z i []) s ∙ other a i k _ (eqb k i) refl ∙ c.stays;
     }
+
+-- ---- the first m cells of a row, changed one by one, with the others behind them
+pub untouched : (f : ℕ → Row → Row) (m : ℕ) (row : Row) → Range f row 0 m 0 (take m row ++ drop m row)
+untouched f m row = rw (take-append-drop m row) (none (omega arith))
+
+pub cell_set : (g : Float → Float) (cells rest : Row) (j : ℕ) → j < length cells
+    → set cells j (g (get_or cells j nan)) ++ rest ≡ set (cells ++ rest) j (g (get_or (cells ++ rest) j nan))
+cell_set g cells rest j h = rw (get_or_append_left cells rest nan j h) (sym (set-append_left cells rest j _ h))

@@ -1,6 +1,6 @@
 -- 000's `invert_matrix` on rows of floats: its elimination, step by step. Definitions, and examples at the end.
 -- The augmented matrix `aug` has the columns 0 to m - 1 in use and the rows 0 to n - 1; for `invert_matrix` m is 2 * n.
-use Rattle.std.specs.Prelude.{ℕ, ◌+◌, ◌≡◌, Bool, true, false, cond, not, [], ◌∷◌, get_or, set, eqb, Float}
+use Rattle.std.specs.Prelude.{ℕ, ◌+◌, ◌≡◌, true, cond, Option, None, Some, is_some, [], ◌∷◌, get_or, set, eqb, Float}
 use Rattle.std.proofs.Math.Path.{refl}
 use Rattle.std.specs.Float.{nan, binary64}
 use Rattle.std.specs.Float.Ieee.{mul, sub, div, neg, lt, eq, of_bits}
@@ -64,17 +64,18 @@ reduced a i n m p =
     let row = get_or s i [] in
     cleared i n m (set s i (div_row (get_or row i nan) m row))
 
--- one turn of `for i in 0..n`: the matrix as it was where `max_val < 1e-12`
-unfoldable pub gauss_step : Matrix → ℕ → ℕ → ℕ → Matrix
-gauss_step a i n m = cond (lt (pivot_of a i n).val least_pivot) a (reduced a i n m (pivot_of a i n).row)
+-- one turn of `for i in 0..n`: `return Err(..)` where `max_val < 1e-12`
+unfoldable pub gauss_step : Matrix → ℕ → ℕ → ℕ → Option Matrix
+gauss_step a i n m = cond (lt (pivot_of a i n).val least_pivot) None (Some (reduced a i n m (pivot_of a i n).row))
 
--- the same with whether no pivot was below 1e-12 so far; after one that was, nothing is done: `return Err(..)`
-unfoldable pub try_step : ℕ → ℕ → ℕ → Bool × Matrix → Bool × Matrix
-try_step n m i s = cond s.0 (not (lt (pivot_of s.1 i n).val least_pivot), gauss_step s.1 i n m) s
+-- the same unless a turn before has returned
+unfoldable pub try_step : ℕ → ℕ → ℕ → Option Matrix → Option Matrix
+try_step n m i None = None
+try_step n m i (Some a) = gauss_step a i n m
 
--- `for i in 0..n`, whole: whether the matrix is not singular, and `aug` at the end
-unfoldable pub eliminated : Matrix → ℕ → ℕ → Bool × Matrix
-eliminated a n m = range (try_step n m) 0 n (true, a)
+-- `for i in 0..n`, whole: `aug` at the end, none where the matrix is singular
+unfoldable pub eliminated : Matrix → ℕ → ℕ → Option Matrix
+eliminated a n m = range (try_step n m) 0 n (Some a)
 
 -- ---- examples
 
@@ -89,15 +90,15 @@ module _ where
 
   -- 1e-12 itself is no singular pivot, and the number below it is
   singular_examples :
-      ((eliminated ((least_pivot ∷ (one64 ∷ [])) ∷ []) 1 2).0 ≡ true)
-      × ((eliminated ((of_bits binary64 0x3D71_9799_812D_EA10 ∷ (one64 ∷ [])) ∷ []) 1 2).0 ≡ false)
-  unfolding eliminated try_step pivot_of range magnitude cell lt of_bits
+      (is_some (eliminated ((least_pivot ∷ (one64 ∷ [])) ∷ []) 1 2) ≡ true)
+      × (eliminated ((of_bits binary64 0x3D71_9799_812D_EA10 ∷ (one64 ∷ [])) ∷ []) 1 2 ≡ None)
+  unfolding eliminated try_step gauss_step pivot_of range magnitude cell lt of_bits
   singular_examples = (refl, refl)
 
   -- the inverse of the matrix that exchanges two rows
   exchanged :
       let top = zero64 ∷ (one64 ∷ (one64 ∷ (zero64 ∷ []))) in
       let low = one64 ∷ (zero64 ∷ (zero64 ∷ (one64 ∷ []))) in
-      eliminated (top ∷ (low ∷ [])) 2 4 ≡ (true, low ∷ (top ∷ []))
+      eliminated (top ∷ (low ∷ [])) 2 4 ≡ Some (low ∷ (top ∷ []))
   unfolding eliminated try_step gauss_step reduced pivot_of pivot_step div_row div_step cleared clear_step clear_row range magnitude cell lt eq div of_bits
   exchanged = refl

@@ -1,9 +1,8 @@
 // 000's `invert_matrix`: Gauss-Jordan elimination with partial pivoting on the augmented matrix [A | I].
 #![tactic(auto)]
 
-ghost use Rattle.std.specs.Prelude.{◌≡◌, ◌+◌, ◌*◌, ◌≤◌, ◌<◌, not};
-ghost use Rattle.std.specs.Float.Ieee.{lt};
-ghost use Rattle.gauss.specs.Gauss.{pivot_step, pivot_of, swap_rows, div_row, less_row, clear_row, cleared, reduced, gauss_step, least_pivot, try_step, eliminated};
+ghost use Rattle.std.specs.Prelude.{◌≡◌, ◌≤◌, ◌<◌};
+ghost use Rattle.gauss.specs.Gauss.{pivot_step, pivot_of, div_row, less_row, clear_row, cleared, reduced, eliminated};
 
 // The row and the magnitude of a pivot.
 #[derive(Clone, Copy)]
@@ -18,8 +17,11 @@ fn better(a: &[[f64; 16]; 8], i: usize, k: usize, p: Pivot) -> Pivot
     ensures { result ≡ pivot_step a.now i k p }
 {
     let v = real::abs(a[k][i]);
-    let val = p.val;
-    if v > val { Pivot { row: k, val: v } } else { p }
+    if v > p.val {
+        Pivot { row: k, val: v }
+    } else {
+        p
+    }
 }
 
 // The row from i to n - 1 whose cell in column i has the largest magnitude, the first on a tie.
@@ -31,24 +33,11 @@ fn find_pivot(a: &[[f64; 16]; 8], i: usize, n: usize) -> Pivot
         row: i,
         val: real::abs(a[i][i]),
     };
+    // An index, since `better` takes it.
     for k in i + 1..n {
         p = better(a, i, k, p);
     }
     p
-}
-
-// Rows i and k exchanged; nothing is to do where they are one.
-fn swap_rows(a: &mut [[f64; 16]; 8], i: usize, k: usize)
-    requires { (i < 8) × (k < 8) }
-    ensures { a.new ≡ swap_rows a.old i k }
-{
-    if i == k {
-        return;
-    }
-    let x = a[i];
-    let y = a[k];
-    a[i] = y;
-    a[k] = x;
 }
 
 // The first m cells, each divided by v.
@@ -56,8 +45,8 @@ fn div_row(row: &mut [f64; 16], v: f64, m: usize)
     requires { m ≤ 16 }
     ensures { row.new ≡ div_row v m row.old }
 {
-    for j in 0..m {
-        row[j] = row[j] / v;
+    for x in row[..m].iter_mut() {
+        *x = *x / v;
     }
 }
 
@@ -66,6 +55,7 @@ fn less_row(row: &mut [f64; 16], v: f64, by: &[f64; 16], m: usize)
     requires { m ≤ 16 }
     ensures { row.new ≡ less_row v by.now m row.old }
 {
+    // An index: of cells that a zip changes a proof knows nothing afterwards.
     for j in 0..m {
         row[j] = row[j] - v * by[j];
     }
@@ -92,6 +82,7 @@ fn clear(a: &mut [[f64; 16]; 8], i: usize, n: usize, m: usize)
     ensures { a.new ≡ cleared i n m a.old }
 {
     let by = a[i];
+    // An index, since `clear_row` takes it.
     for k in 0..n {
         clear_row(&mut a[k], &by, k, i, m);
     }
@@ -102,49 +93,24 @@ fn reduce(a: &mut [[f64; 16]; 8], i: usize, n: usize, m: usize, p: usize)
     requires { (i < n) × (n ≤ 8) × (m ≤ 16) × (p < 8) }
     ensures { a.new ≡ reduced a.old i n m p }
 {
-    swap_rows(&mut *a, i, p);
+    a.swap(i, p);
     let v = a[i][i];
     div_row(&mut a[i], v, m);
     clear(&mut *a, i, n, m);
 }
 
-// One step with its search for the pivot: whether the pivot was large enough, and else the matrix is as it was.
-fn gauss_step(a: &mut [[f64; 16]; 8], i: usize, n: usize, m: usize) -> bool
-    requires { (i < n) × (n ≤ 8) × (m ≤ 16) }
-    ensures { (result ≡ not (lt (pivot_of a.old i n).val least_pivot)) × (a.new ≡ gauss_step a.old i n m) }
-{
-    let p = find_pivot(&*a, i, n);
-    let val = p.val;
-    let row = p.row;
-    if val < 1e-12 {
-        return false;
-    }
-    reduce(&mut *a, i, n, m, row);
-    true
-}
-
-// The same, unless an earlier pivot was too small, as `on` says.
-fn gauss_try(a: &mut [[f64; 16]; 8], i: usize, n: usize, m: usize, on: bool) -> bool
-    requires { (i < n) × (n ≤ 8) × (m ≤ 16) }
-    ensures { (result, a.new) ≡ try_step n m i (on, a.old) }
-{
-    if on {
-        return gauss_step(&mut *a, i, n, m);
-    }
-    false
-}
-
-// The elimination over n rows and m columns: `ok` says whether no pivot was below 1e-12, that is, the matrix is not singular.
-// Its steps work on one matrix in place.
-pub fn eliminate(a: [[f64; 16]; 8], n: usize, m: usize, ok: &mut bool) -> [[f64; 16]; 8]
+// The elimination over n rows and m columns, on one matrix in place: none where a pivot is below 1e-12, that is, the matrix is singular.
+pub fn eliminate(mut a: [[f64; 16]; 8], n: usize, m: usize) -> Option<[[f64; 16]; 8]>
     requires { (n ≤ 8) × (m ≤ 16) }
-    ensures { (ok.new, result) ≡ eliminated a n m }
+    ensures { result ≡ eliminated a n m }
 {
-    let mut r = a;
-    let mut good = true;
+    // An index: step i is about row and column i.
     for i in 0..n {
-        good = gauss_try(&mut r, i, n, m, good);
+        let p = find_pivot(&a, i, n);
+        if p.val < 1e-12 {
+            return None;
+        }
+        reduce(&mut a, i, n, m, p.row);
     }
-    *ok = good;
-    r
+    Some(a)
 }

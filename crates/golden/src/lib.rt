@@ -42,6 +42,7 @@ impl Bracket {
     }
 
     // The first bracket and its two inner points, not scored yet.
+    #[tactic(auto, unfolding(crate::specs::Golden::start_of))]
     pub fn start(lo: f64, hi: f64) -> Self
         ensures { result ≡ start_of lo hi }
     {
@@ -52,34 +53,33 @@ impl Bracket {
             c: lo + G2 * h,
             d: lo + G * h,
             h,
-            fc: 0.0,
-            fd: 0.0,
-            best: 0.0,
-            low: 0.0,
+            ..Bracket::none()
         }
     }
 
     // The score of c, the first trial.
-    pub fn first(mut self, score: f64) -> Self
+    pub fn first(self, score: f64) -> Self
         ensures { result ≡ first_of self score }
     {
-        self.fc = score;
-        self
+        Bracket { fc: score, ..self }
     }
 
     // The score of d, the second trial: best is c if fc ≤ fd, else d.
-    pub fn second(mut self, score: f64) -> Self
+    #[tactic(auto, unfolding(crate::specs::Golden::second_of))]
+    pub fn second(self, score: f64) -> Self
         ensures { result ≡ second_of self score }
     {
-        self.fd = score;
-        if self.fc <= score {
-            self.best = self.c;
-            self.low = self.fc;
-            return self;
+        let (best, low) = if self.fc <= score {
+            (self.c, self.fc)
+        } else {
+            (self.d, score)
+        };
+        Bracket {
+            fd: score,
+            best,
+            low,
+            ..self
         }
-        self.best = self.d;
-        self.low = score;
-        self
     }
 
     // Whether the next round keeps the part from a to d: c has the strictly lower score.
@@ -90,6 +90,7 @@ impl Bracket {
     }
 
     // The point that the next round tries.
+    #[tactic(auto, unfolding(crate::specs::Golden::aim_of))]
     pub fn aim(self) -> f64
         ensures { result ≡ aim_of self }
     {
@@ -101,6 +102,7 @@ impl Bracket {
     }
 
     // The bracket after the round that tried `aim`, which scored so: the side of the lower score stays.
+    #[tactic(auto, unfolding(crate::specs::Golden::narrow_of))]
     pub fn narrow(self, score: f64) -> Self
         ensures { result ≡ narrow_of self score }
     {
@@ -114,15 +116,19 @@ impl Bracket {
     }
 
     // Only a strictly lower score replaces the best.
-    fn improve(mut self, point: f64, score: f64) -> Self
+    #[tactic(auto, unfolding(crate::specs::Golden::improved_of))]
+    fn improve(self, point: f64, score: f64) -> Self
         ensures { result ≡ improved_of self point score }
     {
         if score < self.low {
-            self.best = point;
-            self.low = score;
-            return self;
+            Bracket {
+                best: point,
+                low: score,
+                ..self
+            }
+        } else {
+            self
         }
-        self
     }
 
     // The part from a to d, with `point` as its new c.
@@ -137,8 +143,7 @@ impl Bracket {
             h: self.d - self.a,
             fc: score,
             fd: self.fc,
-            best: self.best,
-            low: self.low,
+            ..self
         }
     }
 
@@ -154,16 +159,15 @@ impl Bracket {
             h: self.b - self.c,
             fc: self.fd,
             fd: score,
-            best: self.best,
-            low: self.low,
+            ..self
         }
     }
 
     // Whether the search ends before its hundredth round.
+    #[tactic(auto, using(real::proofs::Std::size_same), unfolding(crate::specs::Golden::tight_of))]
     pub fn is_tight(self) -> bool
         ensures { result ≡ tight_of self }
     {
-        let width = real::abs(self.h);
-        width <= 2.220446049250313e-16
+        self.h.abs() <= f64::EPSILON
     }
 }

@@ -9,6 +9,7 @@ use lib.ListN.{length}
 use lib.IntN.{pos}
 use lib.Ieee.{Float, binary64, le, of_int, to_unsigned, in_float}
 use lib.Ieee.Back.{unsigned_back}
+use Rattle.std.specs.Prelude.{Ok}
 use Rattle.real.proofs.Cases.{by_test}
 use Rattle.real.proofs.Counts.{count_natural}
 use Rattle.real.proofs.SignedOrder.{to_unsigned_mono}
@@ -20,16 +21,14 @@ use Rattle.setup.specs.Data.{Data}
 use Rattle.setup.specs.Shape.{setup_of, Sized}
 use Rattle.plan.specs.declared.Plan.{Plan}
 use Rattle.plan.specs.declared.Plan.TheVariants.{Settled, Sought}
-use Rattle.plan.specs.declared.Acceptance.{Acceptance}
-use Rattle.plan.specs.declared.Acceptance.TheVariants.{Planned}
 use Rattle.bounds.specs.Bounds.{greatest_distance, least_distance, least_count, greatest_count, bandwidth_at}
-use Rattle.plan.specs.Plan.{distance_plan, count_plan, search_plan, plan_at, accept_of}
+use Rattle.plan.specs.Plan.{Acceptance, distance_plan, count_plan, search_plan, plan_at, accept_of}
 use Rattle.plan.proofs.Planned.{accept_planned}
 use Rattle.search.specs.Trial.{trial_of}
 use Rattle.search.specs.Search.{golden_of, optimize_bandwidth}
 use Rattle.search.specs.Literal.{golden_section_min}
 use Rattle.search.proofs.Literal.{golden_literal}
-use Rattle.gwr.specs.Fit.{final_of, sought_of, answered, gwr_fit}
+use Rattle.gwr.specs.Fit.{final_of, sought_of, fitted, answered, gwr_fit}
 
 -- A search that is accepted has lo below hi, so that 000's `if a >= b` does not hold
 
@@ -66,17 +65,17 @@ module _ (d : Data) (p : ℕ) (o : GwrOptions) where
   u = setup_of d p o
 
   -- the search of an accepted job is 000's `golden_section_min`: the point that it finds, and the solves
-  pub sought_literal : (out : ℕ) (lo hi : Float) → accept_of d p o out ≡ Planned (Sought lo hi)
+  pub sought_literal : (out : ℕ) (lo hi : Float) → accept_of d p o out ≡ Ok (Sought lo hi)
       → ◌≡◌ {A = Float × ℕ} ((golden_of u d lo hi).bracket.best, (golden_of u d lo hi).solves) (golden_section_min (trial_of u d) lo hi)
   sought_literal out lo hi e =
       let a = accept_planned d p o out e in
       golden_literal u d lo hi (subst⁻¹ Apart a.is (plan_apart u (greatest_distance d.coords u.n) a.accepted.shaped.sized))
 
   -- so the fit of a searched job is 000's: a final fit at the point that `golden_section_min` finds
-  pub fit_literal : (out : List Float) (lo hi : Float) → accept_of d p o (length out) ≡ Planned (Sought lo hi) →
+  pub fit_literal : (out : List Float) (lo hi : Float) → accept_of d p o (length out) ≡ Ok (Sought lo hi) →
       let m = golden_section_min (trial_of u d) lo hi in
-      gwr_fit d p o out ≡ final_of u d (bandwidth_at u m.0) m.1 out
+      gwr_fit d p o out ≡ fitted (final_of u d (bandwidth_at u m.0) m.1 out)
   unfolding gwr_fit sought_of optimize_bandwidth
   fit_literal out lo hi e =
       ap (λ (a : Acceptance). answered a u d out) e
-      ∙ ap (λ (m : Float × ℕ). final_of u d (bandwidth_at u m.0) m.1 out) (sought_literal (length out) lo hi e)
+      ∙ ap (λ (m : Float × ℕ). fitted (final_of u d (bandwidth_at u m.0) m.1 out)) (sought_literal (length out) lo hi e)

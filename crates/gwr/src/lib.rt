@@ -3,100 +3,59 @@
 
 ghost use Rattle.std.specs.Prelude.{◌≡◌, true, ◌*◌, ◌≤◌, length};
 ghost use Rattle.setup.specs.Bandwidth.{Usable};
-ghost use Rattle.setup.specs.Data.{trusted_data};
-ghost use Rattle.setup.specs.Shape.{Shaped};
 ghost use Rattle.sweep.specs.Sweep.{RoomFor};
 ghost use Rattle.gwr.specs.Fit.{final_of, sought_of, gwr_fit};
 
-use plan::{Acceptance, Plan};
+use plan::Plan;
 use refusal::Refusal;
-use setup::{GwrBandwidth, GwrOptions, Setup};
+use setup::{Columns, GwrBandwidth, GwrOptions, Problem, Setup};
 use sweep::Finish;
 
-// What a fit answers. A refusal from the input comes with nothing written; one met while solving keeps the rows before it.
-#[derive(Clone, Copy)]
-pub enum FitAnswer {
-    Done(Finish),
-    Rejected(Refusal),
-}
-
-// The answer, and the number of rows written.
+// What a fit that was made answers, and the number of rows written. A refusal met while solving keeps the rows before it.
 #[derive(Clone, Copy)]
 pub struct Fit {
-    pub answer: FitAnswer,
+    pub finish: Finish,
     pub rows: usize,
 }
 
 // The final fit at a bandwidth, after `before` solves.
-fn final_of(
-    coords: &[f64],
-    x: &[f64],
-    y: &[f64],
-    trust: &[f64],
-    u: Setup,
-    b: GwrBandwidth,
-    before: u64,
-    out: &mut [f64],
-) -> Fit
-    requires shaped { Shaped u (trusted_data coords.now x.now y.now trust.now) }
+fn final_of(problem: &Problem<'_>, b: GwrBandwidth, before: u64, out: &mut [f64]) -> Fit
     requires usable { Usable b }
-    requires room { RoomFor true u (length out.old) × (before ≤ 512 * 102) }
-    ensures { (result, out.new) ≡ final_of u (trusted_data coords.now x.now y.now trust.now) b before out.old }
+    requires room { RoomFor true problem.now.setup (length out.old) × (before ≤ 512 * 102) }
+    ensures { (result, out.new) ≡ final_of problem.now.setup problem.now.columns b before out.old }
 {
-    let s = sweep::fit_all_locations(coords, x, y, trust, u, b, true, out);
-    let reached = s.sweep;
-    let ending = s.ending(u);
-    let solves = s.solves();
-    let finish = sweep::finish_of(ending, b, before + solves);
+    let u = problem.setup();
+    let s = sweep::fit_all_locations(problem, b, true, out);
     Fit {
-        answer: FitAnswer::Done(finish),
-        rows: reached.location,
+        finish: sweep::finish_of(s.ending(u), b, before + s.solves()),
+        rows: s.sweep.location,
     }
 }
 
 // The search from lo to hi, and the final fit at the bandwidth that it found.
-fn sought_of(
-    coords: &[f64],
-    x: &[f64],
-    y: &[f64],
-    trust: &[f64],
-    u: Setup,
-    lo: f64,
-    hi: f64,
-    out: &mut [f64],
-) -> Fit
-    requires shaped { Shaped u (trusted_data coords.now x.now y.now trust.now) }
-    requires room { RoomFor true u (length out.old) }
-    ensures { (result, out.new) ≡ sought_of u (trusted_data coords.now x.now y.now trust.now) lo hi out.old }
+fn sought_of(problem: &Problem<'_>, lo: f64, hi: f64, out: &mut [f64]) -> Fit
+    requires room { RoomFor true problem.now.setup (length out.old) }
+    ensures { (result, out.new) ≡ sought_of problem.now.setup problem.now.columns lo hi out.old }
 {
-    let found = search::optimize_bandwidth(coords, x, y, trust, u, lo, hi);
-    let b = found.bandwidth;
-    final_of(coords, x, y, trust, u, b, found.solves, out)
+    let found = search::optimize_bandwidth(problem, lo, hi);
+    final_of(problem, found.bandwidth, found.solves, out)
 }
 
-// 000's `gwr_fit`: the fit of n observations of p predictors each, n being half the number of coordinates.
+// 000's `gwr_fit`: the fit of n observations of p predictors each, n being half the number of coordinates. A refusal from the
+// input is an Err, and comes with nothing written.
 pub fn gwr_fit(
-    coords: &[f64],
-    x: &[f64],
-    y: &[f64],
-    trust: &[f64],
+    columns: &Columns<'_>,
     p: usize,
     options: GwrOptions,
     out: &mut [f64],
-) -> Fit
-    ensures { (result, out.new) ≡ gwr_fit (trusted_data coords.now x.now y.now trust.now) p options out.old }
+) -> Result<Fit, Refusal>
+    ensures { (result, out.new) ≡ gwr_fit columns.now p options out.old }
 {
-    let n = coords.len() / 2;
-    let u = Setup { options, n, p };
-    let acceptance = plan::accept(coords, x, y, trust, p, options, out.len());
-    match acceptance {
-        Acceptance::Refused(r) => Fit {
-            answer: FitAnswer::Rejected(r),
-            rows: 0,
-        },
-        Acceptance::Planned(q) => match q {
-            Plan::Settled(b) => final_of(coords, x, y, trust, u, b, 0, out),
-            Plan::Sought(lo, hi) => sought_of(coords, x, y, trust, u, lo, hi, out),
-        },
-    }
+    let plan = plan::accept(columns, p, options, out.len())?;
+    let n = columns.coords.len() / 2;
+    let problem = Problem::pose(Setup { options, n, p }, columns);
+    Ok(match plan {
+        Plan::Settled(b) => final_of(&problem, b, 0, out),
+        Plan::Sought(lo, hi) => sought_of(&problem, lo, hi, out),
+    })
 }

@@ -9,7 +9,7 @@ ghost use Rattle.std.specs.Prelude.{◌≤◌, ◌≡◌, length, take};
 ghost use Rattle.listing.specs.Printed.{read_of};
 
 use std::io;
-use std::io::{Read, Stdin};
+use std::io::Stdin;
 
 fn main(rt: HostRuntime) -> io::Result<()> {
     let mut input = [0u8; 41000];
@@ -20,25 +20,11 @@ fn main(rt: HostRuntime) -> io::Result<()> {
 }
 
 // Reads the header's 40 bytes, and then only as many as these ask for; none behind a header that is short or refused.
-fn read_input(stdin: Stdin, input: &mut [u8]) -> usize
+fn read_input(mut stdin: Stdin, input: &mut [u8]) -> usize
     requires { 41000 ≤ length input.old }
     ensures { (result ≤ 41000) × (read_of (take result input.new) ≡ take result input.new) }
 {
-    let head = read_part(stdin, &mut input[..40]);
+    let head = intake::read_part(&mut stdin, &mut input[..40]);
     let end = 40 + header::asked_behind(&input[..head]);
-    head + read_part(stdin, &mut input[40..end])
-}
-
-// Reads standard input until the part is full or the input ends; a read that fails ends it too.
-fn read_part(mut stdin: Stdin, part: &mut [u8]) -> usize
-    ensures { (result ≤ length part.new) × (length part.new ≡ length part.old) }
-{
-    let mut done = 0;
-    while done < part.len() {
-        match stdin.read(&mut part[done..]) {
-            Ok(0) | Err(_) => break,
-            Ok(n) => done += n,
-        }
-    }
-    done
+    head + intake::read_part(&mut stdin, &mut input[40..end])
 }

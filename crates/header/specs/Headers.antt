@@ -1,13 +1,15 @@
 -- The header that `gwrprint` reads, and what is refused before reading on. Definitions only.
-use Rattle.std.specs.Prelude.{ℕ, ◌+◌, ◌*◌, Bool, List, [], ◌∷◌, eqb, ltb, length}
+use Rattle.std.specs.Prelude.{ℕ, ◌+◌, ◌*◌, Bool, List, [], ◌∷◌, eqb, ltb, length, Result, Ok, Err}
 use Rattle.wire.specs.Wire.{load_of}
 use Rattle.refusal.specs.declared.Refusal.{Refusal}
 use Rattle.refusal.specs.declared.Refusal.TheVariants.{NoCoordinates, TooManyObservations, TooManyPredictors, UnknownNumber}
 use Rattle.checks.specs.Judge.{judge, ruled}
 use Rattle.request.specs.Options.{options_of, is_unknown}
 use Rattle.header.specs.declared.Head.{Head}
-use Rattle.header.specs.declared.Header.{Header}
-use Rattle.header.specs.declared.Header.TheVariants.{Whole, Refused}
+
+-- a header's numbers, or what refuses it
+abbrev pub Header : Type 0
+Header = Result Head Refusal
 
 -- 01: n, p, kernel, kind, bandwidth, 8 bytes each
 abbrev pub head_of : List ℕ → Head
@@ -28,7 +30,7 @@ header_tests s =
 
 -- the header of these bytes
 unfoldable pub header_of : List ℕ → Header
-header_of s = ruled (judge (header_tests s)) Refused (Whole (head_of s))
+header_of s = ruled (judge (header_tests s)) Err (Ok (head_of s))
 
 -- how many bytes follow a header: coordinates, predictors and responses
 abbrev pub parts_len : ℕ → ℕ → ℕ
@@ -36,9 +38,9 @@ parts_len n p = 8 * (n * (p + 3))
 
 -- the header where only its sizes are left to test
 unfoldable pub sized_header : List ℕ → Header
-sized_header s = ruled (judge (size_tests (load_of s 0) (load_of s 8))) Refused (Whole (head_of s))
+sized_header s = ruled (judge (size_tests (load_of s 0) (load_of s 8))) Err (Ok (head_of s))
 
 -- how many bytes the program asks for behind a header; 01: 18, n of 0 or over 512 and p over 7 are refused before reading on
 abbrev pub asked : Header → ℕ
-asked (Whole h) = parts_len h.n h.p
-asked (Refused r) = 0
+asked (Ok h) = parts_len h.n h.p
+asked (Err r) = 0

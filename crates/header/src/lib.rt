@@ -7,9 +7,7 @@ ghost use Rattle.header.specs.Headers.{sized_header, header_of, parts_len};
 ghost use Rattle.header.specs.Cuts.{cut_tests};
 ghost use Rattle.header.specs.Headers.{asked};
 
-use checks::Check;
 use refusal::Refusal;
-use request::Choice;
 
 // The five numbers of a whole header that is not refused.
 #[derive(Clone, Copy)]
@@ -21,52 +19,42 @@ pub struct Head {
     pub bandwidth: u64,
 }
 
-#[derive(Clone, Copy)]
-pub enum Header {
-    Whole(Head),
-    Refused(Refusal),
-}
-
 // The numbers of a header, or the refusal of a size.
 #[tactic(auto, using(crate::proofs::Heads::sizes))]
-fn sized_header(s: &[u8]) -> Header
+fn sized_header(s: &[u8]) -> Result<Head, Refusal>
     requires { 40 ≤ length s.now }
     ensures { result ≡ sized_header s.now }
 {
     let n = wire::load(s, 0);
     let p = wire::load(s, 8);
     if n == 0 {
-        return Header::Refused(Refusal::NoCoordinates);
+        return Err(Refusal::NoCoordinates);
     }
     if 512 < n {
-        return Header::Refused(Refusal::TooManyObservations);
+        return Err(Refusal::TooManyObservations);
     }
     if 7 < p {
-        return Header::Refused(Refusal::TooManyPredictors);
+        return Err(Refusal::TooManyPredictors);
     }
-    let head = Head {
+    Ok(Head {
         n: n as usize,
         p: p as usize,
         kernel: wire::load(s, 16),
         kind: wire::load(s, 24),
         bandwidth: wire::load(s, 32),
-    };
-    Header::Whole(head)
+    })
 }
 
 // The header's numbers, and what is refused before reading on: 1 for a short header, then 18, an n of 0 or over 512, a p over 7.
 #[tactic(auto, using(crate::proofs::Heads::header_short))]
-pub fn header_of(s: &[u8]) -> Header
+pub fn header_of(s: &[u8]) -> Result<Head, Refusal>
     ensures { result ≡ header_of s.now }
 {
     if s.len() < 40 {
-        return Header::Refused(Refusal::NoCoordinates);
+        return Err(Refusal::NoCoordinates);
     }
-    let choice = request::options_of(wire::load(s, 16), wire::load(s, 24), wire::load(s, 32));
-    match choice {
-        Choice::Unknown => Header::Refused(Refusal::UnknownNumber),
-        Choice::Known(_) => sized_header(s),
-    }
+    request::options_of(wire::load(s, 16), wire::load(s, 24), wire::load(s, 32))?;
+    sized_header(s)
 }
 
 // How many bytes follow a header.
@@ -78,31 +66,30 @@ fn parts_len(n: usize, p: usize) -> usize
 }
 
 // The first part cut short gives 2, 5 or 6.
-pub fn check_cuts(size: usize, n: usize, p: usize) -> Check
+pub fn check_cuts(size: usize, n: usize, p: usize) -> Result<(), Refusal>
     requires { (n ≤ 512) × (p ≤ 7) }
     ensures { result ≡ judge (cut_tests size n p) }
 {
     let places = 16 * n;
     let predictors = places + 8 * (n * p);
     if size < places {
-        return Check::Refused(Refusal::OddCoordinates);
+        return Err(Refusal::OddCoordinates);
     }
     if size < predictors {
-        return Check::Refused(Refusal::PredictorLength);
+        return Err(Refusal::PredictorLength);
     }
     if size < predictors + 8 * n {
-        return Check::Refused(Refusal::ResponseLength);
+        return Err(Refusal::ResponseLength);
     }
-    Check::Pass
+    Ok(())
 }
 
 // How many bytes are to be read behind a header.
 pub fn asked_behind(head: &[u8]) -> usize
     ensures { (result ≡ asked (header_of head.now)) × (result ≤ 40960) }
 {
-    let header = header_of(head);
-    match header {
-        Header::Refused(_) => 0,
-        Header::Whole(h) => parts_len(h.n, h.p),
+    match header_of(head) {
+        Err(_) => 0,
+        Ok(h) => parts_len(h.n, h.p),
     }
 }

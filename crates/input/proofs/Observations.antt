@@ -10,9 +10,9 @@ use lib.Ieee.Scale.{finite}
 use Rattle.real.specs.Finite.{all_finite, in_unit, all_in_unit}
 use Rattle.real.specs.Reals.{zero64, one64}
 use Rattle.refusal.specs.declared.Refusal.TheVariants.{ResponseNotFinite, CoordinateNotFinite, PredictorNotFinite, TrustOutOfRange}
-use Rattle.setup.specs.Data.{trusted_data}
+use Rattle.setup.specs.Data.{Data}
 use Rattle.checks.specs.Judge.{judge, NoneOf}
-use Rattle.input.specs.Checks.{value_tests}
+use Rattle.input.specs.Checks.{value_tests, trusts_fit}
 use Rattle.real.proofs.Values.{less_tells, times_tells, at_most_told}
 use Rattle.real.proofs.Finite.{Passed, none, more, done}
 
@@ -71,9 +71,9 @@ module _ {c y t : List Float} where
   walked_all r places trusts h = r.is ∙ rw (done r.responses h, done r.places (omega arith), done r.trusts (omega arith)) refl
 
 -- ---- where all is good no test of the values holds
-pub values_pass : (c x y t : List Float) → (all_finite y && all_finite c && all_in_unit t && all_finite x) ≡ true → NoneOf (value_tests (trusted_data c x y t))
+pub values_pass : (d : Data) → (all_finite d.responses && all_finite d.coords && trusts_fit d.trusts && all_finite d.predictors) ≡ true → NoneOf (value_tests d)
 unfolding value_tests judge
-values_pass c x y t = go (all_finite y) (all_finite c) (all_in_unit t) (all_finite x)
+values_pass d = go (all_finite d.responses) (all_finite d.coords) (trusts_fit d.trusts) (all_finite d.predictors)
   where
     go : (a b e v : Bool) → (a && b && e && v) ≡ true → NoneOf ((not a, ResponseNotFinite) ∷ (not b, CoordinateNotFinite) ∷ (not v, PredictorNotFinite) ∷ (not e, TrustOutOfRange) ∷ [])
     go true true true true h = refl

@@ -4,66 +4,65 @@
 ghost use Rattle.std.specs.Prelude.{◌≡◌, ◌&&◌, ◌*◌, ◌≤◌, length};
 ghost use Rattle.std.specs.Float.Ieee.Scale.{finite};
 ghost use Rattle.real.specs.Finite.{all_finite, in_unit, all_in_unit};
-ghost use Rattle.setup.specs.Data.{trusted_data};
+ghost use Rattle.setup.specs.Data.{trust_count};
 ghost use Rattle.setup.specs.Shape.{Sized};
 ghost use Rattle.checks.specs.Judge.{judge};
-ghost use Rattle.input.specs.Checks.{shape_tests, value_tests, output_tests, room_tests, input_tests, lengths_fit, unusable_given, seeks_distance, nothing_between, option_tests_at};
+ghost use Rattle.input.specs.Checks.{trusts_fit, shape_tests, value_tests, output_tests, room_tests, input_tests, lengths_fit, unusable_given, seeks_distance, nothing_between, option_tests_at};
 
 use bounds::usable_distance;
-use checks::Check;
-use real::{all_finite, all_in_unit, both};
+use real::{all_finite, all_in_unit};
 use refusal::Refusal;
-use setup::{GwrBandwidth, GwrOptions, Setup};
+use setup::{Columns, GwrBandwidth, GwrOptions, Setup};
 
 // Refusals 1 to 7: the lengths of the slices and the number of predictors.
-fn check_shape(coords: usize, x: usize, y: usize, trusts: usize, p: usize) -> Check
+fn check_shape(coords: usize, x: usize, y: usize, trusts: usize, p: usize) -> Result<(), Refusal>
     ensures { result ≡ judge (shape_tests coords x y trusts p) }
 {
     if coords == 0 {
-        return Check::Refused(Refusal::NoCoordinates);
+        return Err(Refusal::NoCoordinates);
     }
     if coords % 2 == 1 {
-        return Check::Refused(Refusal::OddCoordinates);
+        return Err(Refusal::OddCoordinates);
     }
     let n = coords / 2;
     if 512 < n {
-        return Check::Refused(Refusal::TooManyObservations);
+        return Err(Refusal::TooManyObservations);
     }
     if 7 < p {
-        return Check::Refused(Refusal::TooManyPredictors);
+        return Err(Refusal::TooManyPredictors);
     }
     if x != n * p {
-        return Check::Refused(Refusal::PredictorLength);
+        return Err(Refusal::PredictorLength);
     }
     if y != n {
-        return Check::Refused(Refusal::ResponseLength);
+        return Err(Refusal::ResponseLength);
     }
     if trusts != n {
-        return Check::Refused(Refusal::ResponseLength);
+        return Err(Refusal::ResponseLength);
     }
     if n < p + 1 {
-        return Check::Refused(Refusal::TooFewObservations);
+        return Err(Refusal::TooFewObservations);
     }
-    Check::Pass
+    Ok(())
 }
 
 // Refusals 8 to 10, a response, coordinate or predictor that is not finite, and 26, a trust that is not in 0..1.
-pub fn check_values(coords: &[f64], x: &[f64], y: &[f64], trust: &[f64]) -> Check
-    ensures { result ≡ judge (value_tests (trusted_data coords.now x.now y.now trust.now)) }
+pub fn check_values(columns: &Columns<'_>) -> Result<(), Refusal>
+    ensures { result ≡ judge (value_tests columns.now) }
 {
-    if !all_finite(y) {
-        return Check::Refused(Refusal::ResponseNotFinite);
+    if !all_finite(columns.responses) {
+        return Err(Refusal::ResponseNotFinite);
     }
-    if !all_finite(coords) {
-        return Check::Refused(Refusal::CoordinateNotFinite);
+    if !all_finite(columns.coords) {
+        return Err(Refusal::CoordinateNotFinite);
     }
-    if !all_finite(x) {
-        return Check::Refused(Refusal::PredictorNotFinite);
+    if !all_finite(columns.predictors) {
+        return Err(Refusal::PredictorNotFinite);
     }
-    if !all_in_unit(trust) {
-        return Check::Refused(Refusal::TrustOutOfRange);
+    if !all_in_unit(columns.trusts) {
+        return Err(Refusal::TrustOutOfRange);
     }
-    Check::Pass
+    Ok(())
 }
 
 // Whether an observation's numbers are finite and its trust lies from 0 to 1. A zero that is multiplied by a number is NaN where that is
@@ -72,10 +71,10 @@ fn observation_good(v: f64, east: f64, north: f64, trust: f64) -> bool
     ensures { result ≡ (finite v && finite east && finite north && in_unit trust) }
 {
     let z = (v - v) * east * north;
-    both(z <= trust, trust <= 1.0)
+    (z <= trust) & (trust <= 1.0)
 }
 
-// Whether all observations are good.
+// Whether all observations are good. By an index: coordinates stand two by two beside responses and trusts.
 fn observations_good(coords: &[f64], y: &[f64], trust: &[f64]) -> bool
     requires { (length coords.now ≡ 2 * length y.now) × (length trust.now ≡ length y.now) }
     ensures { result ≡ (all_finite y.now && all_finite coords.now && all_in_unit trust.now) }
@@ -83,33 +82,33 @@ fn observations_good(coords: &[f64], y: &[f64], trust: &[f64]) -> bool
     let mut good = true;
     for i in 0..y.len() {
         let here = observation_good(y[i], coords[2 * i], coords[2 * i + 1], trust[i]);
-        good = both(good, here);
+        good &= here;
     }
     good
 }
 
 // Whether none of these refusals is met, in one walk that does not ask which.
-pub fn values_good(coords: &[f64], x: &[f64], y: &[f64], trust: &[f64]) -> bool
-    requires { (length coords.now ≡ 2 * length y.now) × (length trust.now ≡ length y.now) }
-    ensures { result ≡ (all_finite y.now && all_finite coords.now && all_in_unit trust.now && all_finite x.now) }
+pub fn values_good(columns: &Columns<'_>) -> bool
+    requires { (length columns.now.coords ≡ 2 * length columns.now.responses) × (trust_count columns.now ≡ length columns.now.responses) }
+    ensures { result ≡ (all_finite columns.now.responses && all_finite columns.now.coords && trusts_fit columns.now.trusts && all_finite columns.now.predictors) }
 {
-    let here = observations_good(coords, y, trust);
-    both(here, all_finite(x))
+    let here = observations_good(columns.coords, columns.responses, columns.trusts);
+    here & all_finite(columns.predictors)
 }
 
 // Refusal 13: an output with no room for n rows.
-fn check_output(n: usize, p: usize, out: usize) -> Check
+fn check_output(n: usize, p: usize, out: usize) -> Result<(), Refusal>
     requires { (n ≤ 512) × (p ≤ 7) }
     ensures { result ≡ judge (output_tests n p out) }
 {
     if out < n * (p + 4) {
-        return Check::Refused(Refusal::OutputTooShort);
+        return Err(Refusal::OutputTooShort);
     }
-    Check::Pass
+    Ok(())
 }
 
 // Refusal 13 of a job of known sizes.
-pub fn check_room(u: Setup, out: usize) -> Check
+pub fn check_room(u: Setup, out: usize) -> Result<(), Refusal>
     requires { Sized u }
     ensures { result ≡ judge (room_tests u out) }
 {
@@ -117,37 +116,28 @@ pub fn check_room(u: Setup, out: usize) -> Check
 }
 
 // Refusals 1 to 7, 8 to 10, 26 and 13. `out` is the output's length.
-pub fn check_input(
-    coords: &[f64],
-    x: &[f64],
-    y: &[f64],
-    trust: &[f64],
-    p: usize,
-    out: usize,
-) -> Check
-    ensures { result ≡ judge (input_tests (trusted_data coords.now x.now y.now trust.now) p out) }
+pub fn check_input(columns: &Columns<'_>, p: usize, out: usize) -> Result<(), Refusal>
+    ensures { result ≡ judge (input_tests columns.now p out) }
 {
-    let shape = check_shape(coords.len(), x.len(), y.len(), trust.len(), p);
-    match shape {
-        Check::Refused(r) => Check::Refused(r),
-        Check::Pass => {
-            let values = check_values(coords, x, y, trust);
-            match values {
-                Check::Refused(r) => Check::Refused(r),
-                Check::Pass => check_output(coords.len() / 2, p, out),
-            }
-        }
-    }
+    check_shape(
+        columns.coords.len(),
+        columns.predictors.len(),
+        columns.responses.len(),
+        columns.trusts.len(),
+        p,
+    )?;
+    check_values(columns)?;
+    check_output(columns.coords.len() / 2, p, out)
 }
 
 // Whether the slices have the lengths that the job's sizes say.
-pub fn lengths_fit(coords: &[f64], x: &[f64], y: &[f64], trust: &[f64], u: Setup) -> bool
+pub fn lengths_fit(columns: &Columns<'_>, u: Setup) -> bool
     requires { Sized u }
-    ensures { result ≡ lengths_fit u (trusted_data coords.now x.now y.now trust.now) }
+    ensures { result ≡ lengths_fit u columns.now }
 {
-    let answers = both(y.len() == u.n, trust.len() == u.n);
-    let rest = both(x.len() == u.n * u.p, answers);
-    both(coords.len() == 2 * u.n, rest)
+    let answers = (columns.responses.len() == u.n) & (columns.trusts.len() == u.n);
+    let rest = (columns.predictors.len() == u.n * u.p) & answers;
+    (columns.coords.len() == 2 * u.n) & rest
 }
 
 // Whether a distance is given that cannot be used.
@@ -180,20 +170,20 @@ pub fn seeks_distance(searched: bool, bandwidth: GwrBandwidth) -> bool
 fn nothing_between(searched: bool, bandwidth: GwrBandwidth, hi: f64) -> bool
     ensures { result ≡ nothing_between searched bandwidth hi }
 {
-    both(seeks_distance(searched, bandwidth), !usable_distance(hi))
+    seeks_distance(searched, bandwidth) & !usable_distance(hi)
 }
 
 // Refusals 11 and 12, where hi is the greatest pair distance.
-pub fn check_options(options: GwrOptions, hi: f64) -> Check
+pub fn check_options(options: GwrOptions, hi: f64) -> Result<(), Refusal>
     ensures { result ≡ judge (option_tests_at options hi) }
 {
     let searched = options.optimize_bandwidth;
     let bandwidth = options.bandwidth;
     if unusable_given(searched, bandwidth) {
-        return Check::Refused(Refusal::UnusableDistance);
+        return Err(Refusal::UnusableDistance);
     }
     if nothing_between(searched, bandwidth, hi) {
-        return Check::Refused(Refusal::NoDistanceRange);
+        return Err(Refusal::NoDistanceRange);
     }
-    Check::Pass
+    Ok(())
 }

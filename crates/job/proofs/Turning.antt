@@ -1,4 +1,5 @@
 -- The tests of a turn one after the other, the arms of its code, and what a turn may count on.
+use Rattle.std.specs.Prelude.{Result}
 use mathlib.Core.Path.{◌≡◌, refl, sym, ap, subst⁻¹, ◌∙◌}
 use mathlib.Core.Bool.{Bool, true, false, not}
 use mathlib.Core.List.{List}
@@ -7,6 +8,7 @@ use native.Mathlib.Omega.{arith}
 use borrow.Author.Tests.{ltb-false, not-false}
 use lib.ListN.{length}
 use lib.Ieee.{Float}
+use Rattle.std.specs.Prelude.{Ok, Err}
 use Rattle.refusal.specs.declared.Refusal.{Refusal}
 use Rattle.refusal.specs.declared.Refusal.TheVariants.{UnfitRecord, AlreadyEnded, LengthsDiffer}
 use Rattle.setup.specs.declared.GwrBandwidth.{GwrBandwidth}
@@ -14,10 +16,7 @@ use Rattle.setup.specs.declared.Setup.{Setup}
 use Rattle.setup.specs.Bandwidth.{Usable}
 use Rattle.setup.specs.Data.{Data}
 use Rattle.setup.specs.Shape.{Shaped}
-use Rattle.criterion.specs.declared.Criterion.{Criterion}
-use Rattle.checks.specs.declared.Check.{Check}
-use Rattle.checks.specs.declared.Check.TheVariants as check
-use Rattle.checks.specs.Judge.{judge, ruled, NoneOf, Decides}
+use Rattle.checks.specs.Judge.{Check, judge, ruled, NoneOf, Decides}
 use Rattle.checks.proofs.Judge.{ruled_refused, ruled_pass, judge_append, first_here, judge_rest, none_head, none_append, decides}
 use Rattle.input.specs.Checks.{output_tests, value_tests, room_tests, lengths_fit}
 use Rattle.input.proofs.Meanings.{lengths_shaped}
@@ -42,19 +41,19 @@ use Rattle.job.proofs.Runs.{Running, running_none, running_more, running_over, r
 -- ---- what is lent
 
 module _ (u : Setup) (d : Data) (out : ℕ) where
-  pub lent_differ : lengths_fit u d ≡ false → check.Refused LengthsDiffer ≡ judge (lent_tests u d out)
+  pub lent_differ : lengths_fit u d ≡ false → Err LengthsDiffer ≡ judge (lent_tests u d out)
   unfolding lent_tests
   lent_differ e = sym (first_here LengthsDiffer _ (ap not e))
 
-  lent_rest : lengths_fit u d ≡ true → judge (lent_tests u d out) ≡ ruled (judge (value_tests d)) check.Refused (judge (room_tests u out))
+  lent_rest : lengths_fit u d ≡ true → judge (lent_tests u d out) ≡ ruled (judge (value_tests d)) Err (judge (room_tests u out))
   unfolding lent_tests
   lent_rest e = judge_rest LengthsDiffer _ (ap not e) ∙ judge_append (value_tests d) (room_tests u out)
 
-  pub lent_refused : (r : Refusal) → lengths_fit u d ≡ true → judge (value_tests d) ≡ check.Refused r → check.Refused r ≡ judge (lent_tests u d out)
-  lent_refused r e h = sym (lent_rest e ∙ ruled_refused check.Refused (judge (room_tests u out)) h)
+  pub lent_refused : (r : Refusal) → lengths_fit u d ≡ true → judge (value_tests d) ≡ Err r → Err r ≡ judge (lent_tests u d out)
+  lent_refused r e h = sym (lent_rest e ∙ ruled_refused Err (judge (room_tests u out)) h)
 
-  pub lent_room : (k : Check) → lengths_fit u d ≡ true → judge (value_tests d) ≡ check.Pass → k ≡ judge (room_tests u out) → k ≡ judge (lent_tests u d out)
-  lent_room k e h r = r ∙ sym (lent_rest e ∙ ruled_pass check.Refused (judge (room_tests u out)) h)
+  pub lent_room : (k : Check) → lengths_fit u d ≡ true → judge (value_tests d) ≡ Ok tt → k ≡ judge (room_tests u out) → k ≡ judge (lent_tests u d out)
+  lent_room k e h r = r ∙ sym (lent_rest e ∙ ruled_pass Err (judge (room_tests u out)) h)
 
 -- ---- a turn's tests
 
@@ -62,11 +61,11 @@ module _ (j : Job) (d : Data) (out : ℕ) where
   abbrev tests : List (Bool × Refusal)
   tests = turn_tests j d out
 
-  pub turn_unfit : is_fit j ≡ false → check.Refused UnfitRecord ≡ judge tests
+  pub turn_unfit : is_fit j ≡ false → Err UnfitRecord ≡ judge tests
   unfolding turn_tests
   turn_unfit e = sym (first_here UnfitRecord _ (ap not e))
 
-  pub turn_ended : is_fit j ≡ true → is_ended j.stage ≡ true → check.Refused AlreadyEnded ≡ judge tests
+  pub turn_ended : is_fit j ≡ true → is_ended j.stage ≡ true → Err AlreadyEnded ≡ judge tests
   unfolding turn_tests
   turn_ended e f = sym (judge_rest UnfitRecord _ (ap not e) ∙ first_here AlreadyEnded _ f)
 
@@ -95,17 +94,17 @@ module _ (j : Job) (d : Data) (out : List Float) (a : ℕ) where
   unfolding turn_of
   turn_decides = decides (turn_tests j d (length out)) refl
 
-  pub turn_refused : (k : Check) (r : Refusal) → k ≡ judge (turn_tests j d (length out)) → k ≡ check.Refused r → refused_turn j out r ≡ turn_of j d out a
+  pub turn_refused : (k : Check) (r : Refusal) → k ≡ judge (turn_tests j d (length out)) → k ≡ Err r → refused_turn j out r ≡ turn_of j d out a
   turn_refused k r e f = sym (turn_decides.refused r (sym e ∙ f))
 
-  pub turn_ran : (k : Check) (t : Turned × List Float) → k ≡ judge (turn_tests j d (length out)) → k ≡ check.Pass → t ≡ run_of j d out a → t ≡ turn_of j d out a
+  pub turn_ran : (k : Check) (t : Turned × List Float) → k ≡ judge (turn_tests j d (length out)) → k ≡ Ok tt → t ≡ run_of j d out a → t ≡ turn_of j d out a
   turn_ran k t e f h = h ∙ sym (turn_decides.served (sym e ∙ f))
 
 -- ---- what a job says of itself
 
-pub answer_ended : (x : Stage) (c : Criterion) (b : GwrBandwidth) (k : ℕ) (f : Finish) → x ≡ Ended c → f ≡ finish_of c b k
-    → answer.Ended f ≡ by_stage answer.Working answer.Working (λ (z : Criterion). answer.Ended (finish_of z b k)) x
-answer_ended x c b k f e h = ap answer.Ended h ∙ sym (ap (by_stage answer.Working answer.Working (λ (z : Criterion). answer.Ended (finish_of z b k))) e)
+pub answer_ended : (x : Stage) (c : Result Float Refusal) (b : GwrBandwidth) (k : ℕ) (f : Finish) → x ≡ Ended c → f ≡ finish_of c b k
+    → answer.Ended f ≡ by_stage answer.Working answer.Working (λ (z : Result Float Refusal). answer.Ended (finish_of z b k)) x
+answer_ended x c b k f e h = ap answer.Ended h ∙ sym (ap (by_stage answer.Working answer.Working (λ (z : Result Float Refusal). answer.Ended (finish_of z b k))) e)
 
 pub tell_is : (j : Job) (steps : ℕ) (r : Answer) → r ≡ answer_at j.stage j → ◌≡◌ {A = Turned} (record { answer = r; steps = steps; job = j }) (tell_of j steps)
 tell_is j steps r e = ap (λ (x : Answer). record { answer = x; steps = steps; job = j }) e
@@ -119,26 +118,26 @@ pub record Reached (d : Data) (allowance : ℕ) (j₀ : Job) (out₀ : List Floa
 
 module _ (d : Data) {allowance : ℕ} {j₀ : Job} {out₀ : List Float} where
   -- before the first step
-  pub reached_none : Sound 0 j₀ → Reached d allowance j₀ out₀ allowance 0 j₀ out₀
-  reached_none s = record { running = running_none; holds = record { setup = refl; held = sound_held j₀ s; length_is = refl } }
+  pub reached_none : {left : ℕ} → left ≡ allowance → Sound 0 j₀ → Reached d allowance j₀ out₀ left 0 j₀ out₀
+  reached_none e s = subst⁻¹ (λ (n : ℕ). Reached d allowance j₀ out₀ n 0 j₀ out₀) e record { running = running_none; holds = record { setup = refl; held = sound_held j₀ s; length_is = refl } }
 
   module _ {left made : ℕ} {j : Job} {out : List Float} (r : Reached d allowance j₀ out₀ left made j out) where
     pub reached_usable : Usable j.bandwidth
     reached_usable = sound_usable r.holds.held
 
     -- what a step of it asks
-    pub reached_ready : is_ended j.stage ≡ false → Shaped j₀.setup d → j₀.setup.n * (j₀.setup.p + 4) ≤ length out₀
-        → Sound 0 j × (Shaped j.setup d × (j.setup.n * (j.setup.p + 4) ≤ length out))
-    reached_ready live shape room =
+    pub reached_ready : is_ended j.stage ≡ false → {u : Setup} → u ≡ j₀.setup → j₀.setup.n * (j₀.setup.p + 4) ≤ length out₀
+        → Sound 0 j × ((u ≡ j.setup) × (j.setup.n * (j.setup.p + 4) ≤ length out))
+    reached_ready live same room =
         let e = r.holds.setup in (
           held_live j live r.holds.held,
-          (subst⁻¹ (λ (u : Setup). Shaped u d) e shape, subst⁻¹ (λ (u : Setup). u.n * (u.p + 4) ≤ length out) e (omega (arith, room, r.holds.length_is))),
+          (same ∙ sym e, subst⁻¹ (λ (u : Setup). u.n * (u.p + 4) ≤ length out) e (omega (arith, room, r.holds.length_is))),
         )
 
-    pub reached_more : (k : Job) (after : List Float) → j₀.setup.n * (j₀.setup.p + 4) ≤ length out₀ → 0 < left → is_ended j.stage ≡ false
-        → ◌≡◌ {A = Job × List Float} (k, after) (step_of d (j, out)) → Reached d allowance j₀ out₀ (left - 1) (made + 1) k after
-    reached_more k after room some live h =
-        record {
+    pub reached_more : {rest : ℕ} (k : Job) (after : List Float) → rest ≡ left - 1 → j₀.setup.n * (j₀.setup.p + 4) ≤ length out₀ → 0 < left → is_ended j.stage ≡ false
+        → ◌≡◌ {A = Job × List Float} (k, after) (step_of d (j, out)) → Reached d allowance j₀ out₀ rest (made + 1) k after
+    reached_more k after fewer room some live h =
+        subst⁻¹ (λ (n : ℕ). Reached d allowance j₀ out₀ n (made + 1) k after) fewer record {
           running = running_more r.running (k, after) some live h;
           holds = subst⁻¹ (Holds j₀.setup (length out₀)) h (holds_step d j₀.setup (length out₀) (j, out) room r.holds live);
         }

@@ -1,12 +1,11 @@
 -- A turn: its refusals, and its run of steps. Definitions only.
-use Rattle.std.specs.Prelude.{ℕ, Bool, not, List, ◌∷◌, ◌++◌, length, Float}
+use Rattle.std.specs.Prelude.{ℕ, Bool, not, List, ◌∷◌, ◌++◌, length, Float, Result}
 use Rattle.refusal.specs.declared.Refusal.{Refusal}
 use Rattle.refusal.specs.declared.Refusal.TheVariants.{UnfitRecord, AlreadyEnded, LengthsDiffer}
 use Rattle.setup.specs.declared.Setup.{Setup}
 use Rattle.setup.specs.Data.{Data}
 use Rattle.checks.specs.Judge.{judge, ruled}
 use Rattle.input.specs.Checks.{lengths_fit, value_tests, room_tests}
-use Rattle.criterion.specs.declared.Criterion.{Criterion}
 use Rattle.sweep.specs.Finish.{finish_of}
 use Rattle.stepping.specs.declared.Stage.{Stage}
 use Rattle.stepping.specs.declared.Job.{Job}
@@ -31,7 +30,7 @@ turn_tests j d out = (not (is_fit j), UnfitRecord) ∷ (is_ended j.stage, Alread
 
 -- working, or ended with the summary and any refusal
 abbrev pub answer_at : Stage → Job → Answer
-answer_at x j = by_stage answer.Working answer.Working (λ (c : Criterion). answer.Ended (finish_of c j.bandwidth j.solves)) x
+answer_at x j = by_stage answer.Working answer.Working (λ (c : Result Float Refusal). answer.Ended (finish_of c j.bandwidth j.solves)) x
 
 -- of a job after so many steps
 abbrev pub tell_of : Job → ℕ → Turned

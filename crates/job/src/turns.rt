@@ -1,51 +1,43 @@
 // The refusals of a turn in order, and its run of steps.
 ghost use Rattle.std.specs.Prelude.{◌≡◌, ◌+◌, ◌*◌, ◌≤◌, length};
 ghost use Rattle.setup.specs.Bandwidth.{Usable};
-ghost use Rattle.setup.specs.Data.{trusted_data};
-ghost use Rattle.setup.specs.Shape.{Sized, Shaped};
+ghost use Rattle.setup.specs.Shape.{Sized};
 ghost use Rattle.checks.specs.Judge.{judge};
 ghost use Rattle.stepping.specs.Sound.{Sound};
 ghost use Rattle.job.specs.Turn.{lent_tests, turn_tests, answer_at, tell_of, run_of, turn_of};
 
 use super::{Answer, Turned};
-use checks::Check;
 use fitness::is_fit;
 use refusal::Refusal;
-use setup::Setup;
+use setup::{Columns, Problem, Setup};
 use stepping::{Job, Stage};
 
 // Refusal 21, then 8, 9, 10, 26 and 13, of what a turn is lent. Which of 8 to 26 is met is asked only where one is: the data were good
 // when the job began.
-fn check_lent(coords: &[f64], x: &[f64], y: &[f64], trust: &[f64], u: Setup, out: usize) -> Check
+fn check_lent(columns: &Columns<'_>, u: Setup, out: usize) -> Result<(), Refusal>
     requires { Sized u }
-    ensures { result ≡ judge (lent_tests u (trusted_data coords.now x.now y.now trust.now) out) }
+    ensures { result ≡ judge (lent_tests u columns.now out) }
 {
-    if input::lengths_fit(coords, x, y, trust, u) {
-        if input::values_good(coords, x, y, trust) {
-            return input::check_room(u, out);
-        }
-        let values = input::check_values(coords, x, y, trust);
-        return match values {
-            Check::Refused(r) => Check::Refused(r),
-            Check::Pass => input::check_room(u, out),
-        };
+    if !input::lengths_fit(columns, u) {
+        return Err(Refusal::LengthsDiffer);
     }
-    Check::Refused(Refusal::LengthsDiffer)
+    if !input::values_good(columns) {
+        input::check_values(columns)?;
+    }
+    input::check_room(u, out)
 }
 
 // The refusals of a turn in order.
-fn check_turn(j: Job, coords: &[f64], x: &[f64], y: &[f64], trust: &[f64], out: usize) -> Check
-    ensures { result ≡ judge (turn_tests j (trusted_data coords.now x.now y.now trust.now) out) }
+fn check_turn(j: Job, columns: &Columns<'_>, out: usize) -> Result<(), Refusal>
+    ensures { result ≡ judge (turn_tests j columns.now out) }
 {
-    if is_fit(j) {
-        let stage = j.stage;
-        if stage.is_ended() {
-            return Check::Refused(Refusal::AlreadyEnded);
-        }
-        let u = j.setup;
-        return check_lent(coords, x, y, trust, u, out);
+    if !is_fit(j) {
+        return Err(Refusal::UnfitRecord);
     }
-    Check::Refused(Refusal::UnfitRecord)
+    if j.stage.is_ended() {
+        return Err(Refusal::AlreadyEnded);
+    }
+    check_lent(columns, j.setup, out)
 }
 
 // What a job at this stage says of itself.
@@ -53,13 +45,9 @@ fn answer_at(stage: Stage, j: Job) -> Answer
     requires { Usable j.bandwidth }
     ensures { result ≡ answer_at stage j }
 {
-    let bandwidth = j.bandwidth;
     match stage {
-        Stage::First => Answer::Working,
-        Stage::Second => Answer::Working,
-        Stage::Round => Answer::Working,
-        Stage::Final => Answer::Working,
-        Stage::Ended(ending) => Answer::Ended(sweep::finish_of(ending, bandwidth, j.solves)),
+        Stage::Ended(ending) => Answer::Ended(sweep::finish_of(ending, j.bandwidth, j.solves)),
+        _ => Answer::Working,
     }
 }
 
@@ -68,64 +56,41 @@ fn tell(j: Job, steps: u32) -> Turned
     requires { Usable j.bandwidth }
     ensures { result ≡ tell_of j steps }
 {
-    let stage = j.stage;
-    let answer = answer_at(stage, j);
     Turned {
-        answer,
+        answer: answer_at(j.stage, j),
         steps,
         job: j,
     }
 }
 
 // Steps until the allowance is spent or the job ends.
-fn run(
-    j: Job,
-    coords: &[f64],
-    x: &[f64],
-    y: &[f64],
-    trust: &[f64],
-    out: &mut [f64],
-    allowance: u32,
-) -> Turned
+fn run(j: Job, problem: &Problem<'_>, out: &mut [f64], allowance: u32) -> Turned
     requires sound { Sound 0 j }
-    requires shaped { Shaped j.setup (trusted_data coords.now x.now y.now trust.now) }
+    requires own { problem.now.setup ≡ j.setup }
     requires room { j.setup.n * (j.setup.p + 4) ≤ length out.old }
-    ensures { (result, out.new) ≡ run_of j (trusted_data coords.now x.now y.now trust.now) out.old allowance }
+    ensures { (result, out.new) ≡ run_of j problem.now.columns out.old allowance }
 {
     let mut k = j;
-    let mut left = allowance;
-    let mut made = 0u32;
-    while left > 0 {
-        let stage = k.stage;
-        if stage.is_ended() {
+    // Counted, not indexed: how many steps were made is told.
+    for made in 0..allowance {
+        if k.stage.is_ended() {
             return tell(k, made);
         }
-        k = k.step(coords, x, y, trust, &mut *out);
-        made = made + 1;
-        left = left - 1;
+        k = k.step(problem, &mut *out);
     }
-    tell(k, made)
+    tell(k, allowance)
 }
 
 // A turn: refused, or so many steps as the allowance and the end allow.
-pub fn turn(
-    j: Job,
-    coords: &[f64],
-    x: &[f64],
-    y: &[f64],
-    trust: &[f64],
-    out: &mut [f64],
-    allowance: u32,
-) -> Turned
-    ensures { (result, out.new) ≡ turn_of j (trusted_data coords.now x.now y.now trust.now) out.old allowance }
+pub fn turn(j: Job, columns: &Columns<'_>, out: &mut [f64], allowance: u32) -> Turned
+    ensures { (result, out.new) ≡ turn_of j columns.now out.old allowance }
 {
-    let check = check_turn(j, coords, x, y, trust, out.len());
-    match check {
-        Check::Refused(r) => Turned {
+    match check_turn(j, columns, out.len()) {
+        Err(r) => Turned {
             answer: Answer::Refused(r),
             steps: 0,
             job: j,
         },
-        Check::Pass => run(j, coords, x, y, trust, out, allowance),
+        Ok(()) => run(j, &Problem::pose(j.setup, columns), out, allowance),
     }
 }

@@ -1,3 +1,5 @@
 pub mod Published
 pub mod Weight
 pub mod Reach
+pub mod Place
+pub mod Numbers

@@ -1,5 +1,5 @@
 -- Distance and kernel weight. Definitions, and examples at the end.
-use Rattle.std.specs.Prelude.{◌≡◌, Bool, true, false, cond, not, ◌||◌, T, pos, Float}
+use Rattle.std.specs.Prelude.{◌≡◌, Bool, true, false, cond, not, ◌||◌, T, pos, Float, Option, Some, None}
 use Rattle.std.proofs.Math.Path.{refl}
 use Rattle.std.specs.Float.{fin, binary64}
 use Rattle.std.specs.Float.Ieee.{add, sub, mul, div, neg, lt, le, eq, of_bits}
@@ -10,8 +10,6 @@ use Rattle.root.specs.Root.{root}
 use Rattle.elementary.specs.Exp.{expv}
 use Rattle.kernel.specs.declared.GwrKernel.{GwrKernel}
 use Rattle.kernel.specs.declared.GwrKernel.TheVariants.{Gaussian, Bisquare}
-use Rattle.kernel.specs.declared.Weighed.{Weighed}
-use Rattle.kernel.specs.declared.Weighed.TheVariants.{Weight, BadDistance}
 use Rattle.kernel.specs.Published.{gaussian_formula, bisquare_formula, exponential_formula, kernel_formula}
 
 -- dx·dx + dy·dy
@@ -34,10 +32,10 @@ unfoldable pub weight_of : GwrKernel → Float → Float → Float
 unfolding unusable gaussian_formula bisquare_formula exponential_formula expv mul div sub neg lt eq of_bits
 weight_of k d b = cond (unusable b) (cond (eq d zero64) one64 zero64) (kernel_formula rounded expv (λ x. x) k d b)
 
--- the answer of the public weight call: a refusal where d is NaN or negative
-unfoldable pub weighed : GwrKernel → Float → Float → Weighed
+-- the answer of the public weight call: none where d is NaN or negative
+unfoldable pub weighed : GwrKernel → Float → Float → Option Float
 unfolding weight_of le
-weighed k d b = cond (le zero64 d) (Weight (weight_of k d b)) BadDistance
+weighed k d b = cond (le zero64 d) (Some (weight_of k d b)) None
 
 -- x lies from 0 to 1
 pub record FromZeroToOne (x : Float) : Type 0 where
@@ -57,7 +55,7 @@ module _ where
 
   -- the public call refuses -1, and serves -0, as the distance 0 that it is
   call_examples :
-      (weighed Gaussian (fin true 1 (pos 0)) (fin false 1 (pos 0)) ≡ BadDistance)
-      × (weighed Bisquare (fin true 0 (pos 0)) (fin false 1 (pos 0)) ≡ Weight one64)
+      (weighed Gaussian (fin true 1 (pos 0)) (fin false 1 (pos 0)) ≡ None)
+      × (weighed Bisquare (fin true 0 (pos 0)) (fin false 1 (pos 0)) ≡ Some one64)
   unfolding weighed of_bits
   call_examples = (refl, refl)

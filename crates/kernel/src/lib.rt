@@ -7,14 +7,17 @@ ghost use Rattle.real.specs.Reals.{zero64, one64};
 ghost use Rattle.real.specs.Arithmetic.{rounded};
 ghost use Rattle.elementary.specs.Exp.{expv};
 ghost use Rattle.kernel.specs.Published.{gaussian_formula, bisquare_formula};
-ghost use Rattle.kernel.specs.Weight.{squares_of, distance_of, weight_of, weighed};
+ghost use Rattle.kernel.specs.Numbers.{kernel_of};
+ghost use Rattle.kernel.specs.Weight.{weight_of, weighed};
 
+mod place;
 mod reaching;
 
-pub use reaching::{guess_distance, settle_distance};
+pub use place::Place;
+use refusal::Refusal;
 
 // 000's three spatial kernels.
-#[derive(Clone, Copy)]
+#[derive(Clone, Copy, PartialEq, Eq, Debug)]
 pub enum GwrKernel {
     Gaussian,
     Bisquare,
@@ -38,6 +41,23 @@ impl GwrKernel {
             }
         } else {
             degenerate(d)
+        }
+    }
+}
+
+// The kernel of a number: 0, 1 and 2 are known, and 18 refuses the others.
+impl TryFrom<u64> for GwrKernel {
+    type Error = Refusal;
+
+    ghost try_from_gives = { λ number r. r ≡ kernel_of number };
+
+    #[tactic(auto, unfolding(crate::specs::Numbers::kernel_of))]
+    fn try_from(number: u64) -> Result<Self, Refusal> {
+        match number {
+            0 => Ok(GwrKernel::Gaussian),
+            1 => Ok(GwrKernel::Bisquare),
+            2 => Ok(GwrKernel::Exponential),
+            _ => Err(Refusal::UnknownNumber),
         }
     }
 }
@@ -68,37 +88,9 @@ fn bisquare(d: f64, b: f64) -> f64
     }
 }
 
-// The sum of the squares of the distance between two places, easting and northing of each.
-pub fn squares(ax: f64, ay: f64, bx: f64, by: f64) -> f64
-    ensures { result ≡ squares_of ax ay bx by }
-{
-    let dx = ax - bx;
-    let dy = ay - by;
-    dx * dx + dy * dy
-}
-
-// The distance between two places.
-pub fn distance(ax: f64, ay: f64, bx: f64, by: f64) -> f64
-    ensures { result ≡ distance_of ax ay bx by }
-{
-    root::sqrt(squares(ax, ay, bx, by))
-}
-
-// What the public weight call answers.
-#[derive(Clone, Copy)]
-pub enum Weighed {
-    Weight(f64),
-    // The distance is negative or NaN.
-    BadDistance,
-}
-
 // The public weight call: every distance but a negative one and NaN has a weight.
-pub fn weigh_distance(k: GwrKernel, d: f64, b: f64) -> Weighed
+pub fn weigh_distance(k: GwrKernel, d: f64, b: f64) -> Option<f64>
     ensures { result ≡ weighed k d b }
 {
-    if d >= 0.0 {
-        Weighed::Weight(k.weight(d, b))
-    } else {
-        Weighed::BadDistance
-    }
+    if d >= 0.0 { Some(k.weight(d, b)) } else { None }
 }

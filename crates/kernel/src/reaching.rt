@@ -1,11 +1,10 @@
-// Weights without a root where nothing weighs, and roots of distances guessed beforehand: for speed alone.
+// Weights without a root where nothing weighs: for speed alone.
 ghost use Rattle.std.specs.Prelude.{◌≡◌};
 ghost use Rattle.root.specs.Root.{root};
-ghost use Rattle.root.specs.Guess.{guess_of};
-ghost use Rattle.kernel.specs.Weight.{squares_of, distance_of, weight_of};
+ghost use Rattle.kernel.specs.Weight.{weight_of};
 ghost use Rattle.kernel.specs.Reach.{bisquare_reach, reach_of, Reach};
 
-use crate::{GwrKernel, squares};
+use crate::GwrKernel;
 
 impl GwrKernel {
     // A sum of squares from which on nothing weighs under bandwidth b, so that no root is taken there; NaN where none is known.
@@ -45,18 +44,4 @@ fn bisquare_reach(b: f64) -> f64
     } else {
         0.0 / 0.0
     }
-}
-
-// A guess at the distance between two places. How near it comes is not claimed.
-pub fn guess_distance(ax: f64, ay: f64, bx: f64, by: f64) -> f64
-    ensures { result ≡ guess_of (squares_of ax ay bx by) }
-{
-    root::guess(squares(ax, ay, bx, by))
-}
-
-// The distance between two places, fast where y is `guess_distance` of them.
-pub fn settle_distance(ax: f64, ay: f64, bx: f64, by: f64, y: f64) -> f64
-    ensures { result ≡ distance_of ax ay bx by }
-{
-    root::sqrt_near(squares(ax, ay, bx, by), y)
 }

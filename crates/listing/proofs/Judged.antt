@@ -1,4 +1,5 @@
 -- What is printed goes by one list of tests: a refusal's line where one holds, and else the text of the fit of the numbers.
+use Rattle.std.specs.Prelude.{Result, IfOk}
 use mathlib.Core.Path.{◌≡◌, refl, sym, ap, subst, ◌∙◌}
 use mathlib.Core.Bool.{Bool, false}
 use mathlib.Core.List.{List, ◌∷◌, ◌++◌}
@@ -10,6 +11,7 @@ use lib.Dec.{ltb}
 use lib.ListN.{length, take, drop, replicate, length-drop, length-replicate}
 use lib.Seq.{length-take-le}
 use lib.Ieee.{Float}
+use Rattle.std.specs.Prelude.{Ok, Err}
 use Rattle.real.specs.Reals.{zero64}
 use Rattle.wire.specs.Wire.{reals}
 use Rattle.wire.proofs.Decoding.{length_reals}
@@ -19,14 +21,12 @@ use Rattle.refusal.proofs.Range.{numbered}
 use Rattle.setup.specs.declared.GwrOptions.{GwrOptions}
 use Rattle.setup.specs.Data.{Data, trusting}
 use Rattle.setup.specs.Shape.{setup_of}
-use Rattle.checks.specs.declared.Check.{Check}
-use Rattle.checks.specs.declared.Check.TheVariants as check
-use Rattle.checks.specs.Judge.{judge, ruled, NoneOf, Decides}
+use Rattle.checks.specs.Judge.{Check, judge, ruled, NoneOf, Decides}
 use Rattle.checks.proofs.Judge.{ruled_append, ruled_refused, ruled_pass, judge_append, judge_rest, none_append, decides}
 use Rattle.input.specs.Checks.{value_tests, option_tests, fit_tests}
 use Rattle.gwr.specs.declared.Fit.{Fit}
 use Rattle.gwr.specs.Fit.{gwr_fit}
-use Rattle.gwr.proofs.Bounds.{Sound, fits}
+use Rattle.gwr.proofs.Bounds.{Made, fits}
 use Rattle.request.specs.Options.{options_of, is_unknown}
 use Rattle.calls.specs.Calls.{numbers_of, lent_too_short, number_tests, call_tests, AfterCall, refused_call, fitted_bytes, numbers_fit, fit_bytes}
 use Rattle.request.specs.Lengths.{byte_tests, ByteLengths}
@@ -34,7 +34,6 @@ use Rattle.calls.proofs.Judged.{call_decides}
 use Rattle.request.proofs.Lengths.{lengths_pass}
 use Rattle.calls.proofs.Served.{call_passed}
 use Rattle.header.specs.declared.Head.{Head}
-use Rattle.header.specs.declared.Header.TheVariants.{Whole, Refused}
 use Rattle.header.specs.Headers.{head_of, header_tests, header_of}
 use Rattle.listing.specs.Jobs.{refused_text, answer_text, call_of_parts, whole_text, job_text}
 use Rattle.header.specs.Cuts.{places_end, predictors_end, responses_end, cut_tests}
@@ -48,14 +47,14 @@ use Rattle.listing.proofs.Numbers.{answer_text_lem}
 -- ---- lists of tests
 
 -- what is given matters only where the check passes
-ruled_under : {A : Type 0} (k : Check) (refuse : Refusal → A) (a b : A) → (k ≡ check.Pass → a ≡ b) → ruled k refuse a ≡ ruled k refuse b
+ruled_under : {A : Type 0} (k : Check) (refuse : Refusal → A) (a b : A) → (k ≡ Ok tt → a ≡ b) → ruled k refuse a ≡ ruled k refuse b
 unfolding ruled
-ruled_under check.Pass refuse a b h = h refl
-ruled_under (check.Refused r) refuse a b h = refl
+ruled_under (Ok passed) refuse a b h = h refl
+ruled_under (Err r) refuse a b h = refl
 
 -- a test that does not hold, left out
 without : (l m : List (Bool × Refusal)) (b : Bool) (r : Refusal) → b ≡ false → judge (l ++ ((b, r) ∷ m)) ≡ judge (l ++ m)
-without l m b r e = judge_append l ((b, r) ∷ m) ∙ ap (ruled (judge l) check.Refused) (judge_rest r m e) ∙ sym (judge_append l m)
+without l m b r e = judge_append l ((b, r) ∷ m) ∙ ap (ruled (judge l) Err) (judge_rest r m e) ∙ sym (judge_append l m)
 
 -- ---- whole parts
 
@@ -136,7 +135,7 @@ module _ (h : Head) (parts : List ℕ) (known : is_unknown (options_of h.kernel 
         let rest = number_tests A B D p o (length out) (length summary) in
         judge_rest UnknownNumber (bytes ++ rest) known
         ∙ judge_append bytes rest
-        ∙ ruled_pass check.Refused (judge rest) (lengths_pass (length A) (length B) (length D) p lengths)
+        ∙ ruled_pass Err (judge rest) (lengths_pass (length A) (length B) (length D) p lengths)
         ∙ numbers_judged
 
     -- of numbers that no test refuses the fit's own list refuses nothing
@@ -162,25 +161,25 @@ module _ (h : Head) (parts : List ℕ) (known : is_unknown (options_of h.kernel 
             let rows = replicate (n * (p + 4)) zero64 in
             let g = fits (data_in h parts) p o rows in
             let half : length (reals parts (2 * n)) / 2 ≡ n = omega (arith, length_reals parts (2 * n)) in
-            answer_text_lem n (p + 4) (fit_in h parts).1 out summary (g.long ∙ length-replicate (n * (p + 4)) zero64) (fit_in h parts).0.answer (fit_in h parts).0.rows (length rows)
-            (subst (λ (k : ℕ). Sound (fit_in h parts).0.answer (fit_in h parts).0.rows k (length rows)) half g.sound)
+            answer_text_lem n (p + 4) (fit_in h parts).1 out summary (g.long ∙ length-replicate (n * (p + 4)) zero64) (fit_in h parts).0 (length rows)
+            (subst (λ (k : ℕ). IfOk (fit_in h parts).0 (λ f. Made k (length rows) f)) half g.sound)
 
         go : (k : Check) → judge (data_tests h parts) ≡ k → answer_text (fit_bytes A B D p h.kernel h.kind h.bandwidth out summary) n (p + 4) ≡ ruled (judge (data_tests h parts)) refused_text (text_of_fit h parts)
-        go (check.Refused r) e =
+        go (Err r) e =
             ap (λ (a : AfterCall). answer_text a n (p + 4)) (call.refused r (call_judged ∙ e))
             ∙ sym (refused_text_lem (refused_call r out summary) n (p + 4) (numbered r).some)
             ∙ sym (ruled_refused refused_text (text_of_fit h parts) e)
-        go check.Pass e =
-            ap (λ (a : AfterCall). answer_text a n (p + 4)) (call.served (call_judged ∙ e) ∙ ap (λ (g : Fit × List Float). fitted_bytes p g out summary) fit_same)
+        go (Ok passed) e =
+            ap (λ (a : AfterCall). answer_text a n (p + 4)) (call.served (call_judged ∙ e) ∙ ap (λ (g : Result Fit Refusal × List Float). fitted_bytes p g out summary) fit_same)
             ∙ fit_text_lem
             ∙ sym (ruled_pass refused_text (text_of_fit h parts) e)
 
 -- ---- the whole input
 
-text_ruled : (k : Check) (h : Head) (parts : List ℕ) → text_of (ruled k Refused (Whole h)) parts ≡ ruled k refused_text (job_text h parts)
+text_ruled : (k : Check) (h : Head) (parts : List ℕ) → text_of (ruled k Err (Ok h)) parts ≡ ruled k refused_text (job_text h parts)
 unfolding ruled
-text_ruled check.Pass h parts = refl
-text_ruled (check.Refused r) h parts = refl
+text_ruled (Ok passed) h parts = refl
+text_ruled (Err r) h parts = refl
 
 module _ (input : List ℕ) where
   abbrev head : Head

@@ -1,4 +1,7 @@
 -- The text of bytes that hold numbers is the text of the numbers.
+use Rattle.std.specs.Prelude.{Result, Ok, Err, Option, Some, None, IfOk}
+use Rattle.refusal.specs.declared.Refusal.{Refusal}
+use Rattle.gwr.specs.declared.Fit.{Fit}
 use mathlib.Core.Path.{◌≡◌, refl, sym, ap, ◌∙◌}
 use mathlib.Core.List.{List, [], ◌∷◌, ◌++◌, map, map-append, append_assoc}
 use Prim.Native.Nat.{ℕ, zero, suc, ◌+◌, ◌*◌, ◌/◌, ◌%◌, ◌≤◌, ◌<◌}
@@ -12,14 +15,14 @@ use Rattle.wire.proofs.Numbers.{length_bytes_of}
 use Rattle.text.specs.Listing.{hex_in, bits_text, bits_texts, row_line, row_lines, summary_line, listing, loads, rows_of}
 use Rattle.refusal.proofs.Range.{numbered}
 use Rattle.criterion.specs.declared.Summary.{Summary}
-use Rattle.sweep.specs.declared.Finish.TheVariants.{Fitted, Failed}
-use Rattle.gwr.specs.declared.FitAnswer.{FitAnswer}
-use Rattle.gwr.specs.declared.FitAnswer.TheVariants.{Done, Rejected}
-use Rattle.gwr.proofs.Bounds.{Sound}
+use Rattle.refusal.specs.Numbers.{refusal_number}
+use Rattle.sweep.specs.Finish.{number_at}
+use Rattle.gwr.specs.Fit.{rows_written as fit_rows}
+use Rattle.gwr.proofs.Bounds.{Made}
 use Rattle.calls.specs.Calls.{summary_bytes, placed_rows, answer_bytes}
 use Rattle.calls.proofs.Counts.{summary_solves}
 use Rattle.listing.specs.Jobs.{answer_text}
-use Rattle.listing.specs.Numbers.{rows_in, fit_text}
+use Rattle.listing.specs.Numbers.{rows_in, finish_text, fit_text}
 use Rattle.listing.proofs.Texts.{refused_text_lem, listing_text}
 
 -- ---- a number from its 8 bytes: its 16 lowest hexadecimal digits are there
@@ -140,13 +143,18 @@ unfolding placed
 rows_text w out width n h = ap (row_lines 0) (rows_real w (drop (0 + length (real_bytes w)) out) width n h) ∙ rows_low 0 (rows_in w width n)
 
 module _ (n width : ℕ) (w : List Float) (out summary : List ℕ) (long : length w ≡ n * width) where
-  -- the text of an answer's bytes is that of the answer
-  pub answer_text_lem : (a : FitAnswer) (rows room : ℕ) → Sound a rows n room → answer_text (answer_bytes a (take (rows * width) w) out summary) n width ≡ fit_text a (rows_in w width n)
+  -- of a fit that was made, by the refusal that it met
+  made_text : (number : Option Refusal) (v : Summary) (rows : ℕ) → v.solves ≤ 52736 → (number ≡ None → rows ≡ n)
+      → answer_text (placed_rows (number_at number) (take (rows * width) w) v out summary) n width ≡ finish_text number v (rows_in w width n)
   unfolding placed_rows
-  answer_text_lem (Done (Fitted v)) rows room h =
-      let e : take (rows * width) w ≡ w = ap (λ (k : ℕ). take (k * width) w) h.1.1 ∙ take_all (n * width) w (omega arith) in
-      sym (listing_text (answer_bytes (Done (Fitted v)) (take (rows * width) w) out summary) n width (omega arith))
-      ∙ listing_same _ _ _ _ _ _ _ _ (ap bits_text (bandwidth_low v summary) ∙ bits_low (bits_of v.bandwidth)) (ap bits_text (aicc_low v summary) ∙ bits_low (bits_of v.aicc)) (summary_solves summary v (omega (arith, h.1.0)))
+  made_text None v rows few whole =
+      let e : take (rows * width) w ≡ w = ap (λ (k : ℕ). take (k * width) w) (whole refl) ∙ take_all (n * width) w (omega arith) in
+      sym (listing_text (placed_rows 0 (take (rows * width) w) v out summary) n width (omega arith))
+      ∙ listing_same _ _ _ _ _ _ _ _ (ap bits_text (bandwidth_low v summary) ∙ bits_low (bits_of v.bandwidth)) (ap bits_text (aicc_low v summary) ∙ bits_low (bits_of v.aicc)) (summary_solves summary v (omega (arith, few)))
       (ap (λ (l : List Float). row_lines 0 (rows_of (placed out 0 (real_bytes l)) width n)) e ∙ rows_text w out width n (omega arith))
-  answer_text_lem (Done (Failed r v)) rows room h = sym (refused_text_lem (answer_bytes (Done (Failed r v)) (take (rows * width) w) out summary) n width (numbered r).some)
-  answer_text_lem (Rejected r) rows room h = sym (refused_text_lem (answer_bytes (Rejected r) (take (rows * width) w) out summary) n width (numbered r).some)
+  made_text (Some r) v rows few whole = sym (refused_text_lem (placed_rows (refusal_number r) (take (rows * width) w) v out summary) n width (numbered r).some)
+
+  -- the text of an answer's bytes is that of the answer
+  pub answer_text_lem : (a : Result Fit Refusal) (room : ℕ) → IfOk a (λ f. Made n room f) → answer_text (answer_bytes a (take (fit_rows a * width) w) out summary) n width ≡ fit_text a (rows_in w width n)
+  answer_text_lem (Ok f) room h = made_text f.finish.refusal f.finish.summary f.rows h.few h.whole
+  answer_text_lem (Err r) room h = sym (refused_text_lem (answer_bytes (Err r) (take (0 * width) w) out summary) n width (numbered r).some)

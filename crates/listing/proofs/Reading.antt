@@ -7,15 +7,14 @@ use native.Mathlib.Nat.{mul-add}
 use native.Mathlib.Omega.{arith}
 use lib.ListN.{length, take, drop, replicate}
 use lib.Seq.{take_all, take-take, take-add, take_at, drop_at}
+use Rattle.std.specs.Prelude.{Ok, Err}
 use Rattle.wire.specs.Wire.{placed}
 use Rattle.text.specs.Listing.{WrittenText}
 use Rattle.refusal.specs.declared.Refusal.{Refusal}
 use Rattle.checks.specs.Judge.{judge, ruled}
 use Rattle.calls.specs.Calls.{AfterCall}
 use Rattle.header.specs.declared.Head.{Head}
-use Rattle.header.specs.declared.Header.{Header}
-use Rattle.header.specs.declared.Header.TheVariants.{Whole, Refused}
-use Rattle.header.specs.Headers.{header_tests, header_of, parts_len}
+use Rattle.header.specs.Headers.{Header, header_tests, header_of, parts_len}
 use Rattle.listing.specs.Jobs.{answer_text, call_of_parts, whole_text, refused_text, job_text}
 use Rattle.header.specs.Cuts.{places_end, predictors_end, responses_end, cut_tests}
 use Rattle.listing.specs.Printed.{text_of, printed, printed_parts, read_of}
@@ -48,8 +47,8 @@ module _ (h : Head) (parts : List ℕ) (m : ℕ) (whole : responses_end h.n h.p 
       ∙ ap (λ (a : AfterCall). ruled (judge (cut_tests (length parts) h.n h.p)) refused_text (answer_text a h.n (h.p + 4))) (call_front (replicate 45056 0) (replicate 24 0))
 
 text_front : (h : Header) (parts : List ℕ) → text_of h (take (asked h) parts) ≡ text_of h parts
-text_front (Whole h) parts = job_front h parts (parts_len h.n h.p) (omega (arith, mul-add h.n h.p 3))
-text_front (Refused r) parts = refl
+text_front (Ok h) parts = job_front h parts (parts_len h.n h.p) (omega (arith, mul-add h.n h.p 3))
+text_front (Err r) parts = refl
 
 -- what is printed of the bytes that the program reads is what is printed of its standard input
 parts_read : (input : List ℕ) → printed_parts (read_of input) ≡ printed_parts input

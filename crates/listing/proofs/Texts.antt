@@ -6,19 +6,19 @@ use native.Mathlib.Omega.{arith}
 use borrow.Author.Tests.{lt-ltb, le-ltb}
 use lib.ListN.{length, take, drop, replicate, length-append, length-drop}
 use lib.Seq.{take_all}
+use Rattle.std.specs.Prelude.{Ok, Err}
 use Rattle.wire.specs.Wire.{load_of, placed}
 use Rattle.text.specs.Listing.{refused_line, listing, rows_of, WrittenText}
 use Rattle.refusal.proofs.Range.{numbered}
 use Rattle.refusal.specs.Numbers.{refusal_number}
 use Rattle.refusal.specs.declared.Refusal.{Refusal}
-use Rattle.checks.specs.Judge.{FirstOf, NoneOf}
+use Rattle.checks.specs.Judge.{Check, FirstOf, NoneOf}
 use Rattle.checks.proofs.Judge.{ruled_refused, ruled_pass}
+use Rattle.request.specs.Answer.{answer_number}
 use Rattle.calls.specs.Calls.{AfterCall, fit_bytes}
 use Rattle.calls.proofs.Counts.{Answered, answered}
 use Rattle.header.specs.declared.Head.{Head}
-use Rattle.header.specs.declared.Header.{Header}
-use Rattle.header.specs.declared.Header.TheVariants.{Whole, Refused}
-use Rattle.header.specs.Headers.{header_of}
+use Rattle.header.specs.Headers.{Header, header_of}
 use Rattle.listing.specs.Jobs.{refused_text, answer_text, call_of_parts, whole_text, job_text}
 use Rattle.header.specs.Cuts.{places_end, predictors_end, cut_tests}
 use Rattle.listing.specs.Printed.{text_of, printed_parts}
@@ -32,6 +32,12 @@ number_small r n e = omega (arith, (numbered r).most, e)
 pub refused_text_lem : (a : AfterCall) (n width : ℕ) → 0 < a.0 → refused_line a.0 ≡ answer_text a n width
 unfolding answer_text
 refused_text_lem a n width h = rw (lt-ltb 0 a.0 h)
+
+pub refused_answer : (answer : Check) (r : Refusal) (number : ℕ) (out summary : List ℕ) (n width : ℕ) → answer ≡ Err r → number ≡ refusal_number r → refused_line number ≡ answer_text (answer_number answer, (out, summary)) n width
+refused_answer answer r number out summary n width e i =
+    ap refused_line i
+    ∙ refused_text_lem (refusal_number r, (out, summary)) n width (numbered r).some
+    ∙ sym (ap (λ (z : Check). answer_text (answer_number z, (out, summary)) n width) e)
 
 pub listing_text : (a : AfterCall) (n width : ℕ) → a.0 ≤ 0 → listing (load_of a.1.1 0) (load_of a.1.1 8) (load_of a.1.1 16) (rows_of a.1.0 width n) ≡ answer_text a n width
 unfolding answer_text
@@ -54,11 +60,11 @@ module _ (h : Head) (parts : List ℕ) where
   job_whole e = sym (ruled_pass refused_text whole e)
 
 -- the text of an input, of the header that was read and the bytes behind it
-pub refused_input : (input : List ℕ) (r : Refusal) (number : ℕ) → header_of input ≡ Refused r → number ≡ refusal_number r → refused_line number ≡ printed_parts input
+pub refused_input : (input : List ℕ) (r : Refusal) (number : ℕ) → header_of input ≡ Err r → number ≡ refusal_number r → refused_line number ≡ printed_parts input
 unfolding printed_parts
 refused_input input r number e i = ap refused_line i ∙ sym (ap (λ (z : Header). text_of z (drop 40 input)) e)
 
-pub whole_input : (input : List ℕ) (h : Head) → header_of input ≡ Whole h → job_text h (take (length input - 40) (drop 40 input)) ≡ printed_parts input
+pub whole_input : (input : List ℕ) (h : Head) → header_of input ≡ Ok h → job_text h (take (length input - 40) (drop 40 input)) ≡ printed_parts input
 unfolding printed_parts
 whole_input input h e =
     ap (job_text h) (take_all (length input - 40) (drop 40 input) (omega (arith, length-drop 40 input))) ∙ sym (ap (λ (z : Header). text_of z (drop 40 input)) e)

@@ -1,5 +1,5 @@
 -- Which inputs `gwrprint` refuses, and the text of the fit of the numbers that the others hold. Definitions only.
-use Rattle.std.specs.Prelude.{ℕ, zero, suc, ◌+◌, ◌*◌, Bool, List, [], ◌∷◌, ◌++◌, map, ltb, length, take, drop, replicate, Float}
+use Rattle.std.specs.Prelude.{ℕ, zero, suc, ◌+◌, ◌*◌, Bool, List, [], ◌∷◌, ◌++◌, map, ltb, length, take, drop, replicate, Float, Result, Ok, Err, Option, Some, None}
 use Rattle.real.specs.Reals.{zero64}
 use Rattle.wire.specs.Wire.{bits_of, reals}
 use Rattle.text.specs.Listing.{listing}
@@ -9,9 +9,7 @@ use Rattle.setup.specs.declared.GwrOptions.{GwrOptions}
 use Rattle.setup.specs.Data.{Data, trusting}
 use Rattle.setup.specs.Shape.{setup_of}
 use Rattle.input.specs.Checks.{value_tests, option_tests}
-use Rattle.sweep.specs.declared.Finish.TheVariants.{Fitted, Failed}
-use Rattle.gwr.specs.declared.FitAnswer.{FitAnswer}
-use Rattle.gwr.specs.declared.FitAnswer.TheVariants.{Done, Rejected}
+use Rattle.criterion.specs.declared.Summary.{Summary}
 use Rattle.gwr.specs.declared.Fit.{Fit}
 use Rattle.gwr.specs.Fit.{gwr_fit}
 use Rattle.request.specs.Options.{options_of, named}
@@ -47,7 +45,7 @@ print_tests input =
 -- ---- what is printed of the others
 
 -- the fit of the numbers that stand behind a header, with an output of n rows
-abbrev pub fit_in : Head → List ℕ → Fit × List Float
+abbrev pub fit_in : Head → List ℕ → Result Fit Refusal × List Float
 fit_in h parts = gwr_fit (data_in h parts) h.p (options_in h) (replicate (h.n * (h.p + 4)) zero64)
 
 -- the first n rows of an output, of `width` numbers each
@@ -56,11 +54,14 @@ rows_in out width zero = []
 rows_in out width (suc n) = rows_in out width n ++ (take width (drop (n * width) out) ∷ [])
 
 -- 01: first line: refusal (0 none), bandwidth, AICc, solves; a row: location, then its output row; reals as hexadecimal bits; a refusal prints `fit` and its number only
-abbrev pub fit_text : FitAnswer → List (List Float) → List ℕ
-fit_text (Done (Fitted v)) rows = listing (bits_of v.bandwidth) (bits_of v.aicc) v.solves (map (map bits_of) rows)
-fit_text (Done (Failed r v)) rows = refused_text r
-fit_text (Rejected r) rows = refused_text r
+abbrev pub finish_text : Option Refusal → Summary → List (List Float) → List ℕ
+finish_text None v rows = listing (bits_of v.bandwidth) (bits_of v.aicc) v.solves (map (map bits_of) rows)
+finish_text (Some r) v rows = refused_text r
+
+abbrev pub fit_text : Result Fit Refusal → List (List Float) → List ℕ
+fit_text (Ok f) rows = finish_text f.finish.refusal f.finish.summary rows
+fit_text (Err r) rows = refused_text r
 
 -- the text of that fit
 abbrev pub text_of_fit : Head → List ℕ → List ℕ
-text_of_fit h parts = let f = fit_in h parts in fit_text f.0.answer (rows_in f.1 (h.p + 4) h.n)
+text_of_fit h parts = let f = fit_in h parts in fit_text f.0 (rows_in f.1 (h.p + 4) h.n)

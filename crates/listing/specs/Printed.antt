@@ -1,9 +1,7 @@
 -- All that `gwrprint` prints, as a function of all of its standard input. Definitions only.
-use Rattle.std.specs.Prelude.{ℕ, List, ◌++◌, take, drop}
+use Rattle.std.specs.Prelude.{ℕ, List, ◌++◌, take, drop, Ok, Err}
 use Rattle.checks.specs.Judge.{judge, ruled}
-use Rattle.header.specs.declared.Header.{Header}
-use Rattle.header.specs.declared.Header.TheVariants.{Whole, Refused}
-use Rattle.header.specs.Headers.{head_of, header_of, asked}
+use Rattle.header.specs.Headers.{Header, head_of, header_of, asked}
 use Rattle.listing.specs.Jobs.{refused_text, job_text}
 use Rattle.listing.specs.Numbers.{print_tests, text_of_fit}
 
@@ -14,8 +12,8 @@ printed input = ruled (judge (print_tests input)) refused_text (text_of_fit (hea
 -- ---- what the code's parts give; proofs/Judged proves that `printed` is `printed_parts`
 
 abbrev pub text_of : Header → List ℕ → List ℕ
-text_of (Whole h) parts = job_text h parts
-text_of (Refused r) parts = refused_text r
+text_of (Ok h) parts = job_text h parts
+text_of (Err r) parts = refused_text r
 
 unfoldable pub printed_parts : List ℕ → List ℕ
 printed_parts input = text_of (header_of input) (drop 40 input)

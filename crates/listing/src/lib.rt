@@ -3,31 +3,32 @@
 
 ghost use Rattle.std.specs.Prelude.{◌≡◌, ◌+◌, ◌*◌, ◌≤◌, ◌<◌, length};
 ghost use Rattle.wire.specs.Wire.{load_of};
+ghost use Rattle.request.specs.Answer.{answer_number};
 ghost use Rattle.text.specs.Listing.{WrittenText};
 ghost use Rattle.listing.specs.Jobs.{answer_text, whole_text, job_text};
 ghost use Rattle.header.specs.Cuts.{responses_end};
 ghost use Rattle.listing.specs.Printed.{printed};
 
-use checks::Check;
-use header::{Head, Header};
+use header::Head;
+use refusal::Refusal;
 
 // The text of a fit that answered so, with n rows of `width` numbers.
 fn print_answer(
-    number: u32,
+    answer: Result<(), Refusal>,
     out: &[u8],
     summary: &[u8],
     n: usize,
     width: usize,
     text: &mut [u8],
 ) -> usize
-    requires sizes { (number < 1000000) × (n ≤ 512) × (width ≤ 11) × (8 * (n * width) ≤ length out.now) × (24 ≤ length summary.now) × (102400 ≤ length text.old) }
-    requires few_solves { number ≡ 0 → load_of summary.now 16 ≤ 52736 }
-    ensures { WrittenText text.old 0 (answer_text (number, (out.now, summary.now)) n width) text.new result }
+    requires sizes { (n ≤ 512) × (width ≤ 11) × (8 * (n * width) ≤ length out.now) × (24 ≤ length summary.now) × (102400 ≤ length text.old) }
+    requires few_solves { answer_number answer ≡ 0 → load_of summary.now 16 ≤ 52736 }
+    ensures { WrittenText text.old 0 (answer_text (answer_number answer, (out.now, summary.now)) n width) text.new result }
 {
-    if 0 < number {
-        return text::put_refused(text, number);
+    match answer {
+        Err(r) => text::put_refused(text, r.number()),
+        Ok(()) => text::put_fit(text, summary, out, n, width),
     }
-    text::put_fit(text, summary, out, n, width)
 }
 
 // The text of a job whose parts are whole, with `out` and `summary` lent to the fit.
@@ -41,7 +42,7 @@ fn print_whole(h: Head, parts: &[u8], out: &mut [u8], summary: &mut [u8], text: 
     let places = 16 * n;
     let predictors = places + 8 * (n * p);
     let all = predictors + 8 * n;
-    let number = calls::fit_bytes(
+    let answer = calls::fit_bytes(
         &parts[..places],
         &parts[places..predictors],
         &parts[predictors..all],
@@ -52,7 +53,7 @@ fn print_whole(h: Head, parts: &[u8], out: &mut [u8], summary: &mut [u8], text: 
         &mut *out,
         &mut *summary,
     );
-    print_answer(number, &*out, &*summary, n, p + 4, text)
+    print_answer(answer, &*out, &*summary, n, p + 4, text)
 }
 
 // The text of a job whose parts follow its header; answers its length.
@@ -60,10 +61,9 @@ pub fn print_job(h: Head, parts: &[u8], text: &mut [u8]) -> usize
     requires { (h.n ≤ 512) × (h.p ≤ 7) × (102400 ≤ length text.old) }
     ensures { WrittenText text.old 0 (job_text h parts.now) text.new result }
 {
-    let check = header::check_cuts(parts.len(), h.n, h.p);
-    match check {
-        Check::Refused(r) => text::put_refused(text, r.number()),
-        Check::Pass => {
+    match header::check_cuts(parts.len(), h.n, h.p) {
+        Err(r) => text::put_refused(text, r.number()),
+        Ok(()) => {
             let mut out = [0u8; 45056];
             let mut summary = [0u8; 24];
             print_whole(h, parts, &mut out, &mut summary, text)
@@ -76,9 +76,8 @@ pub fn print_input(input: &[u8], text: &mut [u8]) -> usize
     requires { 102400 ≤ length text.old }
     ensures { WrittenText text.old 0 (printed input.now) text.new result }
 {
-    let header = header::header_of(input);
-    match header {
-        Header::Refused(r) => text::put_refused(text, r.number()),
-        Header::Whole(h) => print_job(h, &input[40..], text),
+    match header::header_of(input) {
+        Err(r) => text::put_refused(text, r.number()),
+        Ok(h) => print_job(h, &input[40..], text),
     }
 }

@@ -1,74 +1,37 @@
 // One local solve: 000's `solve_local` with `hat_diagonal` and `local_r_squared`.
 ghost use Rattle.std.specs.Prelude.{◌≡◌, ◌<◌};
 ghost use Rattle.setup.specs.Bandwidth.{Usable};
-ghost use Rattle.setup.specs.Data.{trusted_data};
-ghost use Rattle.setup.specs.Shape.{Shaped};
 ghost use Rattle.local.specs.Solve.{solve_local, solve_location};
 
-use crate::{Outcome, Solved};
-use estimate::Estimate;
-use setup::{GwrBandwidth, Setup};
+use crate::Solved;
+use refusal::Refusal;
+use setup::{GwrBandwidth, Problem};
 
 // 000's `solve_local`, at bandwidth distance b.
-fn solve_local(
-    coords: &[f64],
-    x: &[f64],
-    y: &[f64],
-    trust: &[f64],
-    u: Setup,
-    i: usize,
-    b: f64,
-) -> Solved
-    requires shaped { Shaped u (trusted_data coords.now x.now y.now trust.now) }
-    requires is_location { i < u.n }
-    ensures { result ≡ solve_local u (trusted_data coords.now x.now y.now trust.now) i b }
+fn solve_local(problem: &Problem<'_>, i: usize, b: f64) -> Result<Solved, Refusal>
+    requires { i < problem.now.setup.n }
+    ensures { result ≡ solve_local problem.now.setup problem.now.columns i b }
 {
     let mut w = [0.0; 512];
-    let sum = weights::weigh(
-        coords,
-        x,
-        y,
-        trust,
-        u,
-        coords[2 * i],
-        coords[2 * i + 1],
-        b,
-        &mut w,
-    );
-    let mut inverse = [[0.0; 16]; 8];
-    let e = estimate::fit_coefficients(coords, x, y, u, &w, sum, &mut inverse);
-    let beta = e.beta;
-    let found = e.estimate;
-    match found {
-        Estimate::Fitted => {
-            let v = evaluate::values_at(coords, x, y, u, &w, i, &inverse, beta, sum);
-            Solved {
-                outcome: Outcome::Found(v),
-                beta,
-            }
-        }
-        Estimate::Failed(r) => Solved {
-            outcome: Outcome::Refused(r),
-            beta,
-        },
-    }
+    let sum = weights::weigh(problem, problem.place(i), b, &mut w);
+    let fit = estimate::fit_coefficients(problem, &w, sum)?;
+    let values = evaluate::values_at(problem, &w, i, &fit, sum);
+    Ok(Solved {
+        values,
+        beta: fit.beta,
+    })
 }
 
 // Location i solved at its own bandwidth.
 pub fn solve_location(
-    coords: &[f64],
-    x: &[f64],
-    y: &[f64],
-    trust: &[f64],
-    u: Setup,
+    problem: &Problem<'_>,
     bandwidth: GwrBandwidth,
     i: usize,
-) -> Solved
-    requires shaped { Shaped u (trusted_data coords.now x.now y.now trust.now) }
+) -> Result<Solved, Refusal>
     requires usable { Usable bandwidth }
-    requires is_location { i < u.n }
-    ensures { result ≡ solve_location u (trusted_data coords.now x.now y.now trust.now) bandwidth i }
+    requires is_location { i < problem.now.setup.n }
+    ensures { result ≡ solve_location problem.now.setup problem.now.columns bandwidth i }
 {
-    let b = neighbours::local_bandwidth_distance(coords, u.n, i, bandwidth);
-    solve_local(coords, x, y, trust, u, i, b)
+    let b = neighbours::local_bandwidth_distance(problem, i, bandwidth);
+    solve_local(problem, i, b)
 }

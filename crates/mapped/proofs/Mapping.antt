@@ -1,40 +1,40 @@
--- A loop that puts f of each number in its place: the first k of n are done, and then what was there.
-use mathlib.Core.Path.{◌≡◌, refl, sym, ap, ◌∙◌}
-use mathlib.Core.List.{List, [], ◌∷◌, ◌++◌, map, map-append, append-nil}
+-- A loop that puts one number in another's place: the first k stand in the relation to what was there, and then what was there.
+use mathlib.Core.Path.{◌≡◌, refl, sym, ap, subst, ◌∙◌}
+use mathlib.Core.List.{List, [], ◌∷◌, ◌++◌, append-nil}
 use Prim.Native.Nat.{ℕ, suc, ◌+◌, ◌≤◌, ◌<◌}
 use native.Mathlib.Numerals.{add-one}
 use native.Mathlib.Omega.{arith}
-use lib.ListN.{length, take, drop, get_or, set, length-map, length-set}
+use lib.ListN.{length, take, drop, get_or, set}
 use lib.Seq.{take-length, drop-length, length-take-le, take-suc, drop-cons, set_at, get_or_at, append_snoc}
 use lib.Ieee.{Float, nan}
+use Rattle.std.specs.List.{AllZip}
+use Rattle.std.proofs.lemmas.List.Elements.{AllZip-push, length_all_zip}
 
-pub record Mapping (f : Float → Float) (v₀ : List Float) (n k : ℕ) (v : List Float) : Type 0 where
-  pub most : k ≤ n
-  pub all : n ≡ length v₀
-  pub is : v ≡ map f (take k v₀) ++ drop k v₀
-  pub long : length v ≡ n
+pub record Mapping (R : Float → Float → Type 0) (v₀ : List Float) (k : ℕ) (v : List Float) : Type 0 where
+  pub front : List Float
+  pub each : AllZip R (take k v₀) front
+  pub is : v ≡ front ++ drop k v₀
 
-front : (f : Float → Float) (v₀ : List Float) (k : ℕ) → k < length v₀ → length (map f (take k v₀)) ≡ k
-front f v₀ k h = length-map (take k v₀) f ∙ length-take-le k v₀ (omega arith)
+module _ {R : Float → Float → Type 0} {v₀ : List Float} where
+  pub start : Mapping R v₀ 0 v₀
+  start = record { front = []; each = search; is = refl }
 
-module _ {f : Float → Float} {v₀ : List Float} {n : ℕ} where
-  pub start : n ≡ length v₀ → Mapping f v₀ n 0 v₀
-  start h = record { most = omega arith; all = h; is = refl; long = sym h }
-
-  pub next : {k : ℕ} {v : List Float} {x : Float} → Mapping f v₀ n k v → k < n → x ≡ f (get_or v k nan) → Mapping f v₀ n (k + 1) (set v k x)
-  next {k} {v} {x} m h e =
-      let room : k < length v₀ = omega (arith, m.all) in
+  pub next : {k : ℕ} {v : List Float} {x : Float} → Mapping R v₀ k v → k < length v₀ → R (get_or v k nan) x → Mapping R v₀ (k + 1) (set v k x)
+  next {k} {v} {x} m room r =
+      let long : length m.front ≡ k = sym (length_all_zip R (take k v₀) m.front m.each) ∙ length-take-le k v₀ (omega arith) in
       let there : get_or v k nan ≡ get_or v₀ k nan =
-      rw (m.is, drop-cons v₀ k nan room) (get_or_at (map f (take k v₀)) (get_or v₀ k nan) (drop (suc k) v₀) nan k (front f v₀ k room))
+      rw (m.is, drop-cons v₀ k nan room) (get_or_at m.front (get_or v₀ k nan) (drop (suc k) v₀) nan k long)
       in
       record {
-        most = omega arith;
-        all = m.all;
+        front = m.front ++ (x ∷ []);
+        each = rw (add-one, take-suc v₀ k nan room) (AllZip-push R (take k v₀) m.front (get_or v₀ k nan) x m.each (subst (λ (y : Float). R y x) there r));
         is =
-            rw (m.is, e ∙ ap f there, add-one, drop-cons v₀ k nan room, take-suc v₀ k nan room, map-append f (take k v₀) (get_or v₀ k nan ∷ []))
-            (set_at (map f (take k v₀)) (get_or v₀ k nan) (drop (suc k) v₀) (f (get_or v₀ k nan)) k (front f v₀ k room) ∙ sym (append_snoc (map f (take k v₀)) (f (get_or v₀ k nan)) (drop (suc k) v₀)));
-        long = length-set v k x ∙ m.long;
+            rw (m.is, add-one, drop-cons v₀ k nan room)
+            (set_at m.front (get_or v₀ k nan) (drop (suc k) v₀) x k long ∙ sym (append_snoc m.front x (drop (suc k) v₀)));
       }
 
-  pub done : {k : ℕ} {v : List Float} → Mapping f v₀ n k v → n ≤ k → v ≡ map f v₀
-  done {k} m h = let e : k ≡ length v₀ = omega (arith, m.all) in m.is ∙ rw (e, take-length v₀, drop-length v₀) (append-nil (map f v₀))
+  pub done : {k : ℕ} {v : List Float} → Mapping R v₀ k v → k ≤ length v₀ → length v₀ ≤ k → AllZip R v₀ v
+  done {k} {v} m most h =
+      let e : k ≡ length v₀ = omega arith in
+      let whole : v ≡ m.front = rw (m.is, e, drop-length v₀) (append-nil m.front) in
+      subst (λ (l : List Float). AllZip R v₀ l) (sym whole) (subst (λ (l : List Float). AllZip R l m.front) (ap (λ (n : ℕ). take n v₀) e ∙ take-length v₀) m.each)

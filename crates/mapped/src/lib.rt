@@ -2,24 +2,33 @@
 #![tactic(auto)]
 
 ghost use Rattle.std.specs.Prelude.{◌≡◌, map, ◌≤◌, length};
+ghost use Rattle.std.specs.List.{AllZip};
 ghost use Rattle.root.specs.Root.{root};
 ghost use Rattle.elementary.specs.Exp.{expv};
+
+// Each number becomes what f gives of it.
+fn map_each<F: Fn(f64) -> f64>(values: &mut [f64], f: F)
+    requires { F.IsAlwaysCallable f }
+    ensures { AllZip (λ x y. F.post f x y) values.old values.new }
+{
+    for v in values.iter_mut() {
+        *v = f(*v);
+    }
+}
 
 // Each number becomes its square root.
 pub fn roots(values: &mut [f64])
     ensures { values.new ≡ map root values.old }
 {
-    for i in 0..values.len() {
-        values[i] = root::sqrt(values[i]);
-    }
+    map_each(values, root::sqrt);
 }
 
 // A guess at the root of each number. Nothing is claimed of it.
 fn guess_each(values: &[f64], into: &mut [f64; 512])
     requires { length values.now ≤ 512 }
 {
-    for i in 0..values.len() {
-        into[i] = root::guess(values[i]);
+    for (guess, v) in into.iter_mut().zip(values) {
+        *guess = root::guess(*v);
     }
 }
 
@@ -28,8 +37,9 @@ fn settle_each(values: &mut [f64], guesses: &[f64; 512])
     requires { length values.old ≤ 512 }
     ensures { values.new ≡ map root values.old }
 {
-    for i in 0..values.len() {
-        values[i] = root::sqrt_near(values[i], guesses[i]);
+    // An index: what a zip with the guesses writes is known of no number afterwards.
+    for (i, v) in values.iter_mut().enumerate() {
+        *v = root::sqrt_near(*v, guesses[i]);
     }
 }
 
@@ -50,7 +60,5 @@ pub fn roots_in_passes(values: &mut [f64])
 pub fn exponentials(values: &mut [f64])
     ensures { values.new ≡ map expv values.old }
 {
-    for i in 0..values.len() {
-        values[i] = elementary::exp(values[i]);
-    }
+    map_each(values, elementary::exp);
 }

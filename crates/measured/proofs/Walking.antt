@@ -1,69 +1,38 @@
 -- A walk stopped and taken up again, put together from what the calls give.
-use mathlib.Core.Path.{◌≡◌, sym, ap, ◌∙◌}
+use mathlib.Core.Path.{◌≡◌}
 use mathlib.Core.List.{List}
 use Prim.Native.Nat.{ℕ, ◌+◌, ◌-◌, ◌/◌, ◌≤◌, ◌<◌}
 use native.Mathlib.Omega.{arith}
-use borrow.Author.Tests.{le-leb, lt-leb, lt-ltb, le-ltb}
-use lib.ListN.{length, take, get_or, set, get_or-eq_default}
-use lib.Seq.{length-take-le, get_or-take}
-use lib.Ieee.{Float, nan}
+use borrow.Author.Tests.{le-leb, lt-leb}
+use lib.ListN.{length, get_or, set}
+use lib.Ieee.{Float}
 use Rattle.real.specs.Reals.{zero64, from_count}
-use Rattle.neighbours.specs.declared.Own.{Own}
-use Rattle.neighbours.specs.declared.Own.TheVariants.{At, Nobody}
-use Rattle.neighbours.specs.Walk.{Walk, unmet, walk_on, found_by, squares_from, walk_in, Holds}
-use Rattle.neighbours.proofs.Walks.{walk_few, held_is}
-use Rattle.neighbours.proofs.Smallest.{get_or_any}
+use Rattle.std.specs.Prelude.{Option}
+use Rattle.neighbours.specs.Walk.{Walk, unmet, walk_on, found_by, squares_from}
+use Rattle.neighbours.proofs.Walks.{walk_few}
 use Rattle.measured.specs.Walks.{own_by, end_of, walks_of, asked_of}
 
--- ---- the own pantry
-module _ (i n : ℕ) where
-  pub own_some : i < n → At i ≡ own_by i n
-  unfolding own_by
-  own_some h = sym (rw (lt-ltb i n h))
-
-  pub own_none : n ≤ i → Nobody ≡ own_by i n
-  unfolding own_by
-  own_none h = sym (rw (le-ltb i n h))
-
--- ---- a sum by its place
-module _ (l : List Float) (met at : ℕ) (few : met ≤ 512) (long : length l ≡ 512) where
-  pub sum_there : at < met → get_or l at nan ≡ get_or (take met l) at zero64
-  sum_there h = sym (get_or-take met l at nan h) ∙ get_or_any (take met l) at nan zero64 (omega (arith, length-take-le met l (omega arith)))
-
-  pub sum_none : met ≤ at → zero64 ≡ get_or (take met l) at zero64
-  sum_none h = sym (get_or-eq_default (take met l) zero64 (omega (arith, length-take-le met l (omega arith))))
-
 -- ---- what is seen of an end
-pub end_seen : (l seen : List Float) (met k at : ℕ) (g : Float) {b c x : Float} → met ≤ 512 → length l ≡ 512 → b ≡ found_by k (walk_in l met g) → c ≡ from_count met → x ≡ get_or (take met l) at zero64
-    → set (set (set (set seen 1 b) 2 g) 3 c) 4 x ≡ end_of (walk_in l met g) k at seen
+pub end_seen : (w : Walk) (k at : ℕ) (seen : List Float) {b g c x : Float} {l : List Float}
+    → b ≡ found_by k w → g ≡ w.greatest → l ≡ w.sums → c ≡ from_count (length l) → x ≡ get_or w.sums at zero64
+    → set (set (set (set seen 1 b) 2 g) 3 c) 4 x ≡ end_of w k at seen
 unfolding end_of
-end_seen l seen met k at g few long e f h = let n : length (take met l) ≡ met = length-take-le met l (omega arith) in rw (e, f, h, n)
+end_seen w k at seen e f g h i = rw (e, f, h, i, g)
 
 -- ---- the two walks
-module _ (own : Own) (s : ℕ → Float) {l exit : List Float} {i met : ℕ} (m : ℕ) (z : Float) {g : Float} (e : i ≡ 0) (h : Holds (walk_on own s 0 m (walk_in l i z)) l exit met g) where
-  first_few : met ≤ m
-  first_few = let none : length (take i l) ≡ 0 = ap (λ (a : ℕ). length (take a l)) e in omega (arith, h.count, walk_few own s 0 m (walk_in l i z))
+pub room : (own : Option ℕ) (s : ℕ → Float) (m n : ℕ) {w : Walk} → w ≡ walk_on own s 0 m unmet → m ≤ n → n ≤ 512 → length w.sums + (n - m) ≤ 512
+room own s m n e p q = rw e (omega (arith, walk_few own s 0 m unmet))
 
-  pub room : (n : ℕ) → m ≤ n → n ≤ 512 → met + (n - m) ≤ 512
-  room n p q = omega (arith, first_few)
-
-pub still_long : {w : Walk} {l exit : List Float} {met : ℕ} {g : Float} → Holds w l exit met g → length l ≡ 512 → length exit ≡ 512
-still_long h e = h.long ∙ e
-
-pub walks_seen : (coords : List Float) (n : ℕ) (east north : Float) (own : Own) (m k at : ℕ) (seen : List Float) {l e₁ e₂ last : List Float} {i met₁ met₂ : ℕ} {z g₁ g₂ b : Float}
-    → i ≡ 0 → z ≡ zero64 → Holds (walk_on own (squares_from coords east north) 0 m (walk_in l i z)) l e₁ met₁ g₁ → b ≡ found_by k (walk_in e₁ met₁ g₁)
-    → Holds (walk_on own (squares_from coords east north) m n (walk_in e₁ met₁ g₁)) e₁ e₂ met₂ g₂ → last ≡ end_of (walk_in e₂ met₂ g₂) k at (set seen 0 b)
+pub walks_seen : (coords : List Float) (n : ℕ) (east north : Float) (own : Option ℕ) (m k at : ℕ) (seen : List Float) {w v : Walk} {b : Float} {last : List Float}
+    → w ≡ walk_on own (squares_from coords east north) 0 m unmet → b ≡ found_by k w
+    → v ≡ walk_on own (squares_from coords east north) m n w → last ≡ end_of v k at (set seen 0 b)
     → last ≡ walks_of coords n east north own m k at seen
 unfolding walks_of
-walks_seen coords n east north own m k at seen {l} {e₁} {e₂} {last} {i} {met₁} {met₂} {z} {g₁} {g₂} {b} p q h f j is =
-    let s = squares_from coords east north in
-    let one : walk_in e₁ met₁ g₁ ≡ walk_on own s 0 m unmet = held_is h ∙ ap (λ (a : ℕ). walk_on own s 0 m (walk_in l a z)) p ∙ ap (λ (x : Float). walk_on own s 0 m (walk_in l 0 x)) q in
-    let two : walk_in e₂ met₂ g₂ ≡ walk_on own s m n (walk_on own s 0 m unmet) = held_is j ∙ ap (walk_on own s m n) one in
-    is ∙ ap (λ (w : Walk). end_of w k at (set seen 0 b)) two ∙ ap (λ (x : Float). end_of (walk_on own s m n (walk_on own s 0 m unmet)) k at (set seen 0 x)) (f ∙ ap (found_by k) one)
+walks_seen coords n east north own m k at seen e f g h = rw (h, g, f, e)
 
 -- ---- the call
 module _ (coords : List Float) (east north : Float) (i m k at : ℕ) (seen : List Float) where
-  pub asked_served : {own : Own} {last : List Float} → length coords / 2 ≤ 512 → m ≤ length coords / 2 → own ≡ own_by i (length coords / 2)
+  pub asked_served : {own : Option ℕ} {last : List Float} → length coords / 2 ≤ 512 → m ≤ length coords / 2 → own ≡ own_by i (length coords / 2)
       → last ≡ walks_of coords (length coords / 2) east north own m k at seen → (1, last) ≡ asked_of coords east north i m k at seen
   unfolding asked_of
   asked_served h g e is = rw (is, e, le-leb (length coords / 2) 512 h, le-leb m (length coords / 2) g)

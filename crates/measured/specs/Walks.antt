@@ -1,20 +1,18 @@
 -- A walk over the pantries that is stopped once and taken up again. Definitions only.
-use Rattle.std.specs.Prelude.{ℕ, ◌/◌, List, cond, leb, ltb, length, get_or, set, Float}
+use Rattle.std.specs.Prelude.{Option, Some, None, ℕ, ◌/◌, List, cond, leb, ltb, length, get_or, set, Float}
 use Rattle.real.specs.Reals.{zero64, from_count}
-use Rattle.neighbours.specs.declared.Own.{Own}
-use Rattle.neighbours.specs.declared.Own.TheVariants.{At, Nobody}
 use Rattle.neighbours.specs.Walk.{Walk, unmet, walk_on, found_by, squares_from}
 
 -- the own pantry by its number, nobody from n on
-unfoldable pub own_by : ℕ → ℕ → Own
-own_by i n = cond (ltb i n) (At i) Nobody
+unfoldable pub own_by : ℕ → ℕ → Option ℕ
+own_by i n = cond (ltb i n) (Some i) None
 
 -- what is seen of its end: the bandwidth for a count k, the greatest sum, how many were met, and the sum in place `at`, 0 where there is none
 unfoldable pub end_of : Walk → ℕ → ℕ → List Float → List Float
 end_of w k at l = set (set (set (set l 1 (found_by k w)) 2 w.greatest) 3 (from_count (length w.sums))) 4 (get_or w.sums at zero64)
 
 -- the walk from (east, north) over the first m of n pantries, the bandwidth there, and then the others
-unfoldable pub walks_of : List Float → ℕ → Float → Float → Own → ℕ → ℕ → ℕ → List Float → List Float
+unfoldable pub walks_of : List Float → ℕ → Float → Float → Option ℕ → ℕ → ℕ → ℕ → List Float → List Float
 walks_of coords n east north own m k at l =
     let s = squares_from coords east north in
     let v = walk_on own s 0 m unmet in

@@ -3,26 +3,23 @@
 // rust/bench links it.
 #![tactic(auto)]
 
-ghost use Rattle.std.specs.Prelude.{◌≡◌, map, ◌*◌, ◌≤◌, length, get_or, take};
+ghost use Rattle.std.specs.Prelude.{◌≡◌, map, ◌*◌, ◌≤◌, length, get_or};
 ghost use Rattle.real.specs.Reals.{zero64};
 ghost use Rattle.root.specs.Root.{root};
 ghost use Rattle.elementary.specs.Exp.{expv};
 ghost use Rattle.setup.specs.Data.{trusted_data};
 ghost use Rattle.measured.specs.Turns.{kernel_by, play_of, turns_of};
-ghost use Rattle.neighbours.specs.Walk.{walk_in};
 ghost use Rattle.measured.specs.Walks.{own_by, end_of, walks_of, asked_of};
 ghost use Rattle.gwr.specs.Fit.{gwr_fit};
 ghost use Rattle.measured.specs.Fits.{criterion_by, told_of, seen_of, fit_seen, judged_fit};
 
 use criterion::Summary;
-use gwr::FitAnswer;
-use kernel::GwrKernel;
-use neighbours::{Own, Walker};
+use gwr::Fit;
+use kernel::{GwrKernel, Place};
+use neighbours::Walker;
 use refusal::Refusal;
-use request::Choice;
-use setup::{GwrBandwidth, GwrCriterion, GwrOptions};
+use setup::{Columns, GwrBandwidth, GwrCriterion, GwrOptions};
 use stepping::Job;
-use sweep::Finish;
 
 // Each number becomes its square root.
 #[unsafe(no_mangle)]
@@ -48,40 +45,32 @@ pub extern "C" fn zescolumba_exponentials(values: &mut [f64])
     mapped::exponentials(values);
 }
 
+// A number that the C interface has; unlike that of a byte call it refuses none.
+#[tactic(auto, unfolding(crate::specs::Turns::kernel_by))]
 fn kernel_by(number: u32) -> GwrKernel
     ensures { result ≡ kernel_by number }
 {
-    if number == 0 {
-        return GwrKernel::Gaussian;
+    match number {
+        0 => GwrKernel::Gaussian,
+        1 => GwrKernel::Bisquare,
+        _ => GwrKernel::Exponential,
     }
-    if number == 1 {
-        return GwrKernel::Bisquare;
-    }
-    GwrKernel::Exponential
 }
 
 // The job after so many turns of one allowance.
-fn play(
-    j: Job,
-    coords: &[f64],
-    x: &[f64],
-    y: &[f64],
-    trust: &[f64],
-    out: &mut [f64],
-    allowance: u32,
-    turns: u32,
-) -> Job
-    ensures { (result, out.new) ≡ play_of (trusted_data coords.now x.now y.now trust.now) allowance turns (j, out.old) }
+fn play(j: Job, columns: &Columns<'_>, out: &mut [f64], allowance: u32, turns: u32) -> Job
+    ensures { (result, out.new) ≡ play_of columns.now allowance turns (j, out.old) }
 {
     let mut k = j;
+    // Counted: nothing is indexed.
     for i in 0..turns {
-        let t = job::turn(k, coords, x, y, trust, &mut *out, allowance);
-        k = t.job;
+        k = job::turn(k, columns, &mut *out, allowance).job;
     }
     k
 }
 
-// Begins an unsearched job at the bandwidth distance 400 and takes it through so many turns; answers the solves that it has made.
+// Begins an unsearched job at the bandwidth distance 400 and takes it through so many turns; answers the solves that it has made,
+// 0 where beginning refuses.
 #[unsafe(no_mangle)]
 pub extern "C" fn zescolumba_turns(
     coords: &[f64],
@@ -96,77 +85,72 @@ pub extern "C" fn zescolumba_turns(
 ) -> u64
     ensures { (result, out.new) ≡ turns_of (trusted_data coords.now x.now y.now trust.now) p kernel allowance turns out.old }
 {
+    let columns = Columns {
+        coords,
+        predictors: x,
+        responses: y,
+        trusts: trust,
+    };
     let options = GwrOptions::unguarded(kernel_by(kernel), GwrBandwidth::Fixed(400.0), false);
-    let begun = starting::begin(coords, x, y, trust, p, options, &*out);
-    let first = begun.job;
-    let last = play(first, coords, x, y, trust, out, allowance, turns);
-    last.solves
+    match starting::begin(&columns, p, options, &*out) {
+        Ok(first) => {
+            let last = play(first, &columns, out, allowance, turns);
+            last.solves
+        }
+        Err(_) => 0,
+    }
 }
 
-fn own_by(i: usize, n: usize) -> Own
+#[tactic(auto, unfolding(crate::specs::Walks::own_by))]
+fn own_by(i: usize, n: usize) -> Option<usize>
     ensures { result ≡ own_by i n }
 {
-    if i < n {
-        return Own::At(i);
-    }
-    Own::Nobody
+    (i < n).then_some(i)
 }
 
 // The sum in place `at` of a walk, 0 where there is none.
-fn sum_at(w: Walker, sums: &[f64; 512], at: usize) -> f64
-    requires { (w.met ≤ 512) × (length sums.now ≡ 512) }
-    ensures { result ≡ get_or (take w.met sums.now) at zero64 }
+fn sum_at(walk: &Walker, at: usize) -> f64
+    ensures { result ≡ get_or walk.now.sums at zero64 }
 {
-    if at < w.met {
-        return sums[at];
-    }
-    0.0
+    walk.sums().get(at).copied().unwrap_or(0.0)
 }
 
 // What is seen of a walk's end.
-fn see(w: Walker, sums: &[f64; 512], k: usize, at: usize, seen: &mut [f64; 5])
-    requires { (w.met ≤ 512) × (length sums.now ≡ 512) }
-    ensures { seen.new ≡ end_of (walk_in sums.now w.met w.greatest) k at seen.old }
+#[tactic(auto, using(crate::proofs::Walking::end_seen))]
+fn see(walk: &Walker, k: usize, at: usize, seen: &mut [f64; 5])
+    ensures { seen.new ≡ end_of walk.now k at seen.old }
 {
-    seen[1] = neighbours::found_by(w, sums, k);
-    seen[2] = w.greatest;
-    seen[3] = real::from_count(w.met);
-    seen[4] = sum_at(w, sums, at);
+    seen[1] = walk.found_by(k);
+    seen[2] = walk.greatest();
+    seen[3] = real::from_count(walk.sums().len());
+    seen[4] = sum_at(walk, at);
 }
 
-// A walk from (east, north) over the first m of n pantries, asked for k there, and then over the others, asked again.
+// A walk from the place over the first m of n pantries, asked for k there, and then over the others, asked again.
+#[tactic(auto, using(crate::proofs::Walking::room, crate::proofs::Walking::walks_seen))]
 fn walks(
     coords: &[f64],
     n: usize,
-    east: f64,
-    north: f64,
-    own: Own,
+    place: Place,
+    own: Option<usize>,
     m: usize,
     k: usize,
     at: usize,
     seen: &mut [f64; 5],
 )
     requires { (2 * n ≤ length coords.now) × (n ≤ 512) × (m ≤ n) }
-    ensures { seen.new ≡ walks_of coords.now n east north own m k at seen.old }
+    ensures { seen.new ≡ walks_of coords.now n place.east place.north own m k at seen.old }
 {
-    let mut sums = [0.0; 512];
-    let first = neighbours::walk_on(
-        neighbours::begin(),
-        coords,
-        0,
-        m,
-        east,
-        north,
-        own,
-        &mut sums,
-    );
-    seen[0] = neighbours::found_by(first, &sums, k);
-    let whole = neighbours::walk_on(first, coords, m, n, east, north, own, &mut sums);
-    see(whole, &sums, k, at, seen);
+    let mut walk = Walker::new();
+    walk.walk_on(coords, 0, m, place, own);
+    seen[0] = walk.found_by(k);
+    walk.walk_on(coords, m, n, place, own);
+    see(&walk, k, at, seen);
 }
 
 // The same of the pantries that the coordinates have; an own number from their number on is nobody's. Answers 1, or 0 where they are
 // more than 512, or fewer than m.
+#[tactic(auto, using(crate::proofs::Walking::asked_served, crate::proofs::Walking::asked_beyond, crate::proofs::Walking::asked_many))]
 #[unsafe(no_mangle)]
 pub extern "C" fn zescolumba_walk(
     coords: &[f64],
@@ -183,23 +167,26 @@ pub extern "C" fn zescolumba_walk(
     let n = coords.len() / 2;
     if n <= 512 {
         if m <= n {
-            walks(coords, n, east, north, own_by(own, n), m, k, at, seen);
+            let place = Place { east, north };
+            walks(coords, n, place, own_by(own, n), m, k, at, seen);
             return 1;
         }
     }
     0
 }
 
+#[tactic(auto, unfolding(crate::specs::Fits::criterion_by))]
 fn criterion_by(number: u32) -> GwrCriterion
     ensures { result ≡ criterion_by number }
 {
-    if number == 0 {
-        return GwrCriterion::Unguarded;
+    match number {
+        0 => GwrCriterion::Unguarded,
+        _ => GwrCriterion::Guarded,
     }
-    GwrCriterion::Guarded
 }
 
 // The number, beside what a summary reports and how many rows were written.
+#[tactic(auto, unfolding(crate::specs::Fits::told_of))]
 fn tell(number: u32, s: Summary, rows: usize, reals: &mut [f64; 2], counts: &mut [u64; 2]) -> u32
     ensures { (result, (reals.new, counts.new)) ≡ told_of number s rows reals.old counts.old }
 {
@@ -210,36 +197,37 @@ fn tell(number: u32, s: Summary, rows: usize, reals: &mut [f64; 2], counts: &mut
     number
 }
 
-// What is seen of an answer.
-fn seen_of(answer: FitAnswer, rows: usize, reals: &mut [f64; 2], counts: &mut [u64; 2]) -> u32
-    ensures { (result, (reals.new, counts.new)) ≡ seen_of answer rows reals.old counts.old }
+// What is seen of a fit.
+#[tactic(auto, using(crate::proofs::Judging::seen_rejected, crate::proofs::Judging::seen_made))]
+fn seen_of(fit: Result<Fit, Refusal>, reals: &mut [f64; 2], counts: &mut [u64; 2]) -> u32
+    ensures { (result, (reals.new, counts.new)) ≡ seen_of fit reals.old counts.old }
 {
-    match answer {
-        FitAnswer::Rejected(r) => r.number(),
-        FitAnswer::Done(finish) => match finish {
-            Finish::Failed(r, s) => tell(r.number(), s, rows, reals, counts),
-            Finish::Fitted(s) => tell(0, s, rows, reals, counts),
-        },
+    match fit {
+        Err(r) => r.number(),
+        Ok(fit) => tell(
+            fit.finish.number(),
+            fit.finish.summary,
+            fit.rows,
+            reals,
+            counts,
+        ),
     }
 }
 
 // The fit by these options.
+#[tactic(auto, using(crate::proofs::Judging::fit_told))]
 fn fit_seen(
-    coords: &[f64],
-    x: &[f64],
-    y: &[f64],
-    trust: &[f64],
+    columns: &Columns<'_>,
     p: usize,
     options: GwrOptions,
     out: &mut [f64],
     reals: &mut [f64; 2],
     counts: &mut [u64; 2],
 ) -> u32
-    ensures { ((result, (reals.new, counts.new)), out.new) ≡ fit_seen (gwr_fit (trusted_data coords.now x.now y.now trust.now) p options out.old) reals.old counts.old }
+    ensures { ((result, (reals.new, counts.new)), out.new) ≡ fit_seen (gwr_fit columns.now p options out.old) reals.old counts.old }
 {
-    let fit = gwr::gwr_fit(coords, x, y, trust, p, options, out);
-    let answer = fit.answer;
-    seen_of(answer, fit.rows, reals, counts)
+    let fit = gwr::gwr_fit(columns, p, options, out);
+    seen_of(fit, reals, counts)
 }
 
 // The fit of numbers by the byte call's numbers of kernel, kind and bandwidth, and a criterion's: 0 unguarded, any other guarded. Answers
@@ -261,12 +249,17 @@ pub extern "C" fn zescolumba_fit_judged(
 ) -> u32
     ensures { ((result, (reals.new, counts.new)), out.new) ≡ judged_fit (trusted_data coords.now x.now y.now trust.now) p kernel kind bandwidth criterion out.old reals.old counts.old }
 {
-    let choice = request::options_of(kernel, kind, bandwidth);
-    match choice {
-        Choice::Unknown => Refusal::UnknownNumber.number(),
-        Choice::Known(o) => {
+    match request::options_of(kernel, kind, bandwidth) {
+        Err(r) => r.number(),
+        Ok(o) => {
+            let columns = Columns {
+                coords,
+                predictors: x,
+                responses: y,
+                trusts: trust,
+            };
             let options = o.judged_by(criterion_by(criterion));
-            fit_seen(coords, x, y, trust, p, options, out, reals, counts)
+            fit_seen(&columns, p, options, out, reals, counts)
         }
     }
 }

@@ -8,20 +8,19 @@ use native.Mathlib.Numerals.{add-one}
 use native.Mathlib.Omega.{arith}
 use lib.Dec.{T, T_not}
 use lib.ListN.{length, take, drop, get_or, take-append-drop}
-use lib.Seq.{take-suc, take-length}
 use lib.Ieee.{Float, nan, le, lt, is_nan}
 use lib.Ieee.Bits.{is_true}
-use Rattle.real.specs.Fold.{turns}
 use Rattle.real.proofs.Fold.{related}
 use Rattle.real.proofs.Cases.{by_truth}
 use Rattle.real.proofs.Values.{untrue}
 use Rattle.real.proofs.SignedOrder.{le_tr, apart, nlt→le, number_left}
-use Rattle.selection.specs.Kth.{tally_step, tally}
-use Rattle.selection.proofs.Tallies.{tally_turns}
+use Rattle.std.specs.List.{count_by}
+use Rattle.std.proofs.lemmas.List.Recursion.{is_count_by}
 use Rattle.neighbours.specs.Insert.{rank_of, insert}
-use Rattle.neighbours.specs.declared.Own.{Own}
+use Rattle.std.specs.Prelude.{Option}
 use Rattle.neighbours.specs.Walk.{Walk, unmet, meet, is_own, pass, walk_on}
 use Rattle.neighbours.specs.Smallest.{insert_step, all_distances, Ascending}
+use Rattle.neighbours.proofs.Tallies.{tally_step, tally}
 use Rattle.neighbours.proofs.Inserts.{ins_is}
 
 unfoldable pub amount : (Float → Bool) → List Float → ℕ
@@ -57,7 +56,7 @@ module _ (p : Float → Bool) where
       go false a b s e = e
 
   -- all distances, by their pantries
-  module _ (own : Own) (d : ℕ → Float) where
+  module _ (own : Option ℕ) (d : ℕ → Float) where
     amount_joined : (j : ℕ) (l : List Float) (c : ℕ) → amount p l ≡ c → amount p (insert_step own d j l) ≡ tally_step (λ q. not (is_own own q) && p (d q)) j c
     unfolding insert_step tally_step
     amount_joined j l c e = go (is_own own j)
@@ -91,21 +90,14 @@ module _ (p : Float → Bool) where
     unfolding walk_on tally amount
     amount_met m = related (pass own d) (tally_step (λ q. not (is_own own q) && p (d q))) 0 m (λ w c. amount p w.sums ≡ c) (λ j w c h e. amount_passed j w c e) unmet 0 (omega arith) refl
 
-  -- by its places
-  amount_taken : (l : List Float) (n : ℕ) → n ≤ length l → amount p (take n l) ≡ turns (tally_step (λ j. p (get_or l j nan))) 0 n 0
-  unfolding turns tally_step amount
-  amount_taken l zero h = refl
-  amount_taken l (suc n) h =
-      let z : 0 + n ≡ n = omega arith in
-      ap (amount p) (take-suc l n nan h) ∙ amount_snoc (take n l) (get_or l n nan) ∙ rw z (go (p (get_or l n nan)) (amount_taken l n (omega arith)))
+  -- as std counts
+  pub amount_count : (l : List Float) → amount p l ≡ count_by p l
+  unfolding amount
+  amount_count l = is_count_by (amount p) p refl (λ x l. one (p x) (amount p l)) l
     where
-      go : (b : Bool) → amount p (take n l) ≡ turns (tally_step (λ j. p (get_or l j nan))) 0 n 0
-          → amount p (take n l) + cond b 1 0 ≡ cond b (turns (tally_step (λ j. p (get_or l j nan))) 0 n 0 + 1) (turns (tally_step (λ j. p (get_or l j nan))) 0 n 0)
-      go true e = omega arith
-      go false e = omega arith
-
-  pub amount_tally : (l : List Float) → tally (λ j. p (get_or l j nan)) (length l) ≡ amount p l
-  amount_tally l = tally_turns (λ j. p (get_or l j nan)) (length l) ∙ sym (amount_taken l (length l) (omega arith)) ∙ ap (amount p) (take-length l)
+      one : (b : Bool) (n : ℕ) → cond b (suc n) n ≡ cond b (1 + n) n
+      one true n = omega arith
+      one false n = refl
 
   -- none from place f on passes
   pub amount_upto : (l : List Float) (f : ℕ) → ((j : ℕ) → f ≤ j → j < length l → p (get_or l j nan) ≡ false) → amount p l ≤ f

@@ -17,7 +17,7 @@ use Rattle.real.proofs.Values.{untrue}
 use Rattle.real.proofs.SignedOrder.{nonneg, le_tr, apart, nlt→le, lt→le, here_or_on}
 use Rattle.root.specs.Root.{root}
 use Rattle.root.proofs.Order.{nonneg_number, nonneg_above, root_nonneg, root_order, root_fits, one_only}
-use Rattle.neighbours.specs.declared.Own.{Own}
+use Rattle.std.specs.Prelude.{Option}
 use Rattle.neighbours.specs.Walk.{Walk, unmet, meet, is_own, pass, walk_on}
 use Rattle.neighbours.specs.Smallest.{great_step, greatest_met}
 use Rattle.neighbours.proofs.Inserts.{le_itself}
@@ -107,7 +107,7 @@ module _ (w : Walk) (t : Topped w) (x : Float) (ok : T (from_zero x)) where
       go true u = met_greater (subst T (sym u) tt)
       go false u = met_lesser (subst (λ (b : Bool). T (not b)) (sym u) tt)
 
-module _ (own : Own) (s : ℕ → Float) (m : ℕ) (ok : (j : ℕ) → j < m → T (from_zero (s j))) where
+module _ (own : Option ℕ) (s : ℕ → Float) (m : ℕ) (ok : (j : ℕ) → j < m → T (from_zero (s j))) where
   pass_topped : (j : ℕ) (w : Walk) → j < m → Topped w → Topped (pass own s j w)
   unfolding pass
   pass_topped j w h t = go (is_own own j)
@@ -152,7 +152,7 @@ pub zero_root : zero64 ≡ root zero64
 unfolding root of_bits
 zero_root = refl
 
-module _ (own : Own) (s d : ℕ → Float) (m : ℕ) (ok : (j : ℕ) → j < m → T (from_zero (s j))) (is : (j : ℕ) → d j ≡ root (s j)) where
+module _ (own : Option ℕ) (s d : ℕ → Float) (m : ℕ) (ok : (j : ℕ) → j < m → T (from_zero (s j))) (is : (j : ℕ) → d j ≡ root (s j)) where
   record Roots (g : Float) (w : Walk) : Type 0 where
     root_of : g ≡ root w.greatest
     topped : Topped w

@@ -1,6 +1,6 @@
 pub mod Walks
 pub mod Inserts
+pub mod Tallies
 pub mod Amounts
 pub mod Greatest
 pub mod Smallest
-pub mod Bandwidths

@@ -23,18 +23,18 @@ use Rattle.root.proofs.Order.{nonneg_number, root_nonneg, root_order, root_fits,
 use Rattle.kernel.proofs.DistanceRange.{squares_from_zero}
 use Rattle.kernel.proofs.Reaches.{squares_fits, distance_is}
 use Rattle.selection.specs.Kth.{at_most, fewer, is_kth, kth_smallest}
-use Rattle.selection.proofs.Tallies.{tally_mono}
 use Rattle.selection.proofs.Kths.{kth_enough, kth_below, Found, one, none, kth_found, kth_none}
 use Rattle.neighbours.specs.Insert.{insert}
-use Rattle.neighbours.specs.declared.Own.{Own}
+use Rattle.std.specs.Prelude.{Option}
 use Rattle.neighbours.specs.Walk.{Walk, unmet, is_own, walk_on, width_of, found_by, squares_from, distance_from, nearest_from}
 use Rattle.neighbours.specs.Smallest.{insert_step, all_distances, front_step, met_distances, Ascending, kth_of, greatest_met, kth_nearest}
 use Rattle.neighbours.proofs.Inserts.{Number, inserted_up, inserted_perm}
-use Rattle.neighbours.proofs.Amounts.{amount, amount_all, amount_met, amount_tally, amount_from, amount_upto, amount_most, amount_every, amount_length, by_at_most, by_below}
+use Rattle.neighbours.proofs.Tallies.{tally_mono}
+use Rattle.neighbours.proofs.Amounts.{amount, amount_all, amount_met, amount_count, amount_from, amount_upto, amount_most, amount_every, amount_length, by_at_most, by_below}
 use Rattle.neighbours.proofs.Greatest.{from_zero, held, above, Topped, walk_topped, greatest_root, zero_root}
 
 -- ---- all in order are those met, rearranged
-module _ (own : Own) (d : ℕ → Float) where
+module _ (own : Option ℕ) (d : ℕ → Float) where
   one_met : (j : ℕ) (l s : List Float) → Permᴰ l s → Permᴰ (insert_step own d j l) (front_step own d j s)
   unfolding insert_step front_step
   one_met j l s r = go (is_own own j)
@@ -48,7 +48,7 @@ module _ (own : Own) (d : ℕ → Float) where
   all_met m = related (insert_step own d) (front_step own d) 0 m (λ l s. Permᴰ l s) (λ j l s h r. one_met j l s r) [] [] (omega arith) Permᴰ.nil
 
 -- ---- and where they are numbers, they are in ascending order
-module _ (own : Own) (d : ℕ → Float) (m : ℕ) (numbers : (j : ℕ) → j < m → Number (d j)) where
+module _ (own : Option ℕ) (d : ℕ → Float) (m : ℕ) (numbers : (j : ℕ) → j < m → Number (d j)) where
   one_up : (j : ℕ) (l : List Float) → j < m → Ascending l → Ascending (insert_step own d j l)
   unfolding insert_step
   one_up j l h up = go (is_own own j)
@@ -69,29 +69,29 @@ get_or_any (x ∷ l) (suc i) a b h = get_or_any l i a b (omega arith)
 
 -- ---- the k-th smallest, by amounts
 module _ (l : List Float) (k : ℕ) (v : Float) where
-  at_most_is : at_most l (length l) v ≡ amount (λ x. le x v) l
+  at_most_is : at_most l v ≡ amount (λ x. le x v) l
   unfolding at_most
-  at_most_is = amount_tally (λ x. le x v) l
+  at_most_is = sym (amount_count (λ x. le x v) l)
 
-  fewer_is : fewer l (length l) v ≡ amount (λ x. lt x v) l
+  fewer_is : fewer l v ≡ amount (λ x. lt x v) l
   unfolding fewer
-  fewer_is = amount_tally (λ x. lt x v) l
+  fewer_is = sym (amount_count (λ x. lt x v) l)
 
-  is_kth_lem : k ≤ amount (λ x. le x v) l → amount (λ x. lt x v) l < k → T (is_kth l (length l) k v)
+  is_kth_lem : k ≤ amount (λ x. le x v) l → amount (λ x. lt x v) l < k → T (is_kth l k v)
   unfolding is_kth
   is_kth_lem h g =
       rw (at_most_is, fewer_is)
       (and_i (leb k (amount (λ x. le x v) l)) (ltb (amount (λ x. lt x v) l) k) (subst T (sym (le-leb k (amount (λ x. le x v) l) h)) tt) (subst T (sym (lt-ltb (amount (λ x. lt x v) l) k g)) tt))
 
-  module _ (is : T (is_kth l (length l) k v)) where
+  module _ (is : T (is_kth l k v)) where
     enough_met : k ≤ amount (λ x. le x v) l
-    enough_met = omega (arith, at_most_is, kth_enough l (length l) k v is)
+    enough_met = omega (arith, at_most_is, kth_enough l k v is)
 
     few_below : amount (λ x. lt x v) l < k
-    few_below = omega (arith, fewer_is, kth_below l (length l) k v is)
+    few_below = omega (arith, fewer_is, kth_below l k v is)
 
 -- ---- finite coordinates
-module _ (coords : List Float) (east north : Float) (own : Own) (n : ℕ) (e : T (finite east)) (f : T (finite north)) (ok : (c : ℕ) → c < 2 * n → T (finite (get_or coords c nan))) where
+module _ (coords : List Float) (east north : Float) (own : Option ℕ) (n : ℕ) (e : T (finite east)) (f : T (finite north)) (ok : (c : ℕ) → c < 2 * n → T (finite (get_or coords c nan))) where
   abbrev s : ℕ → Float
   s = squares_from coords east north
 
@@ -179,7 +179,7 @@ module _ (coords : List Float) (east north : Float) (own : Own) (n : ℕ) (e : T
             (apart (root (s j)) r (subst (λ (y : Float). T (lt y r)) (root_is j) u)
             (root_order v (s j) (held v t) (held (s j) o) (above v t) (above (s j) o) (nlt→le (s j) v (nonneg_number (s j) (above (s j) o)).0 (nonneg_number v (above v t)).0 z))))
 
-    the_kth : (m : ℕ) → T (is_kth l (length l) m v) → get_or all (m - 1) zero64 ≡ r
+    the_kth : (m : ℕ) → T (is_kth l m v) → get_or all (m - 1) zero64 ≡ r
     the_kth m is =
         let c = m - 1 in
         let enough = enough_met l m v is in
@@ -201,7 +201,7 @@ module _ (coords : List Float) (east north : Float) (own : Own) (n : ℕ) (e : T
   top : Topped w
   top = walk_topped own s n sum_ok
 
-  some_kth : (k : ℕ) → 1 ≤ k → k ≤ length l → T (is_kth l (length l) k (get_or in_order (k - 1) nan))
+  some_kth : (k : ℕ) → 1 ≤ k → k ≤ length l → T (is_kth l k (get_or in_order (k - 1) nan))
   unfolding in_order
   some_kth k o h =
       let up = all_up own s n (λ j i. (nonneg_number (s j) (above (s j) (sum_ok j i))).0) in
@@ -215,7 +215,7 @@ module _ (coords : List Float) (east north : Float) (own : Own) (n : ℕ) (e : T
 
   -- the sum by which the bandwidth is found
   abbrev chosen : ℕ → Float
-  chosen k = kth_smallest l (length l) k g
+  chosen k = kth_smallest l k g
 
   record Chosen (k : ℕ) : Type 0 where
     from_zero_lem : T (from_zero (chosen k))
@@ -223,9 +223,9 @@ module _ (coords : List Float) (east north : Float) (own : Own) (n : ℕ) (e : T
 
   -- k were met
   many : (k : ℕ) → 1 ≤ k → k ≤ length l → Chosen k
-  many k o h = go (kth_found l (length l) k g)
+  many k o h = go (kth_found l k g)
     where
-      go : Found l (length l) k g (chosen k) → Chosen k
+      go : Found l k g (chosen k) → Chosen k
       go (none a b) = absurd (subst T (a (get_or in_order (k - 1) nan)) (some_kth k o h))
       go (one j i is t) =
           let z : T (from_zero (chosen k)) = subst (λ (x : Float). T (from_zero x)) (sym is) (amount_every from_zero l top.each j i) in
@@ -235,8 +235,8 @@ module _ (coords : List Float) (east north : Float) (own : Own) (n : ℕ) (e : T
   -- fewer, but some
   fewer_met : (k : ℕ) → 0 < length l → length l < k → Chosen k
   fewer_met k o h =
-      let is : g ≡ chosen k = kth_none l (length l) k g h in
-      let last : T (is_kth l (length l) (length l) g) = is_kth_lem l (length l) g top.most (top.met o) in
+      let is : g ≡ chosen k = kth_none l k g h in
+      let last : T (is_kth l (length l) g) = is_kth_lem l (length l) g top.most (top.met o) in
       let m : min k (length all) ≡ length l = min-eq_right (omega (arith, as_many)) ∙ sym as_many in
       record {
         from_zero_lem = subst (λ (x : Float). T (from_zero x)) is top.from_zero_lem;
@@ -246,7 +246,7 @@ module _ (coords : List Float) (east north : Float) (own : Own) (n : ℕ) (e : T
   -- nobody
   nobody_met : (k : ℕ) → 1 ≤ k → length l ≡ 0 → Chosen k
   nobody_met k o h =
-      let is : g ≡ chosen k = kth_none l (length l) k g (omega arith) in
+      let is : g ≡ chosen k = kth_none l k g (omega arith) in
       let at : zero64 ≡ chosen k = sym (top.none h) ∙ is in
       record {
         from_zero_lem = subst (λ (x : Float). T (from_zero x)) is top.from_zero_lem;

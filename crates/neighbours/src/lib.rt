@@ -4,44 +4,38 @@
 // root in all.
 #![tactic(auto)]
 
-ghost use Rattle.std.specs.Prelude.{◌≡◌, ◌*◌, ◌≤◌, ◌<◌, length};
+ghost use Rattle.std.specs.Prelude.{◌≡◌, ◌/◌, ◌≤◌, ◌<◌, length};
 ghost use Rattle.setup.specs.Bandwidth.{Usable};
 ghost use Rattle.neighbours.specs.Walk.{nearest_from};
 ghost use Rattle.neighbours.specs.Bandwidth.{local_bandwidth_distance};
 
-use setup::GwrBandwidth;
+use kernel::Place;
+use setup::{GwrBandwidth, Problem};
 
 mod walk;
 
-pub use walk::{Walker, begin, found_by, walk_on};
+pub use walk::Walker;
 
-// The pantry that stands at the place itself and is left out, if it is one.
-#[derive(Clone, Copy)]
-pub enum Own {
-    At(usize),
-    Nobody,
-}
-
-// The k-th smallest distance from (east, north) to n pantries, its own left out.
-pub fn nearest_from(coords: &[f64], n: usize, east: f64, north: f64, own: Own, k: usize) -> f64
-    requires { (length coords.now ≡ 2 * n) × (n ≤ 512) }
-    ensures { result ≡ nearest_from coords.now n east north own k }
+// The k-th smallest distance from the place to the pantries; `own` stands at the place itself and is left out, if it is one.
+pub fn nearest_from(coords: &[f64], place: Place, own: Option<usize>, k: usize) -> f64
+    requires { length coords.now ≤ 1024 }
+    ensures { result ≡ nearest_from coords.now (length coords.now / 2) place.east place.north own k }
 {
-    let mut sums = [0.0; 512];
-    let w = walk::walk_on(walk::begin(), coords, 0, n, east, north, own, &mut sums);
-    walk::found_by(w, &sums, k)
+    let mut walk = Walker::new();
+    walk.walk_on(coords, 0, coords.len() / 2, place, own);
+    walk.found_by(k)
 }
 
 // 000's `local_bandwidth_distance`.
-pub fn local_bandwidth_distance(coords: &[f64], n: usize, i: usize, bandwidth: GwrBandwidth) -> f64
-    requires lengths { (length coords.now ≡ 2 * n) × (i < n) × (n ≤ 512) }
+pub fn local_bandwidth_distance(problem: &Problem<'_>, i: usize, bandwidth: GwrBandwidth) -> f64
+    requires is_location { i < problem.now.setup.n }
     requires usable { Usable bandwidth }
-    ensures { result ≡ local_bandwidth_distance coords.now n i bandwidth }
+    ensures { result ≡ local_bandwidth_distance problem.now.columns.coords problem.now.setup.n i bandwidth }
 {
     match bandwidth {
         GwrBandwidth::Fixed(b) => b,
         GwrBandwidth::AdaptiveKnn(k) => {
-            nearest_from(coords, n, coords[2 * i], coords[2 * i + 1], Own::At(i), k)
+            nearest_from(problem.coords(), problem.place(i), Some(i), k)
         }
     }
 }

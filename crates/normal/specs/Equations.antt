@@ -8,12 +8,9 @@ use Rattle.real.specs.Reals.{zero64, one64}
 use Rattle.setup.specs.declared.Setup.{Setup}
 use Rattle.setup.specs.Data.{Data, data_of}
 use Rattle.setup.specs.Options.{default_options}
-use Rattle.real.specs.Matrix.{Row, Matrix}
+use Rattle.real.specs.Matrix.{Row}
+use Rattle.normal.specs.declared.equations.Equations.{Equations}
 use Rattle.normal.specs.Design.{design_step, design_row}
-
--- the upper triangle of the matrix A, and the right-hand side
-abbrev pub Equations : Type 0
-Equations = Matrix × Row
 
 -- `a[[p, q]] += wx * design[[j, q]]`, at q
 unfoldable pub cell_step : Float → Row → ℕ → Row → Row
@@ -27,7 +24,7 @@ add_row wx x p m row = range (cell_step wx x) p m row
 unfoldable pub observe_step : Float → Row → Float → ℕ → ℕ → Equations → Equations
 observe_step w x y m p s =
     let wx = mul binary64 w (get_or x p nan) in
-    (set s.0 p (add_row wx x p m (get_or s.0 p [])), set s.1 p (add binary64 (get_or s.1 p nan) (mul binary64 wx y)))
+    record { a = set s.a p (add_row wx x p m (get_or s.a p [])); rhs = set s.rhs p (add binary64 (get_or s.rhs p nan) (mul binary64 wx y)) }
 
 -- `for p in 0..n_params`: an observation of weight w, design row x and response y added
 unfoldable pub observe : Float → Row → Float → ℕ → Equations → Equations
@@ -42,7 +39,7 @@ normal_step u d w j s =
 
 -- `for j in 0..n`, whole, from zeros: the normal equations of the data d under the weights w
 unfoldable pub equations_of : Setup → Data → Row → Equations
-equations_of u d w = range (normal_step u d w) 0 u.n (replicate 8 (replicate 8 zero64), replicate 8 zero64)
+equations_of u d w = range (normal_step u d w) 0 u.n (record { a = replicate 8 (replicate 8 zero64); rhs = replicate 8 zero64 })
 
 -- ---- example
 
@@ -50,6 +47,6 @@ module _ where
   -- an observation of weight 0 is left out, though its response is NaN
   left_out :
       equations_of (record { options = default_options; n = 2; p = 0 }) (data_of [] [] (one64 ∷ (nan ∷ []))) (one64 ∷ (zero64 ∷ []))
-      ≡ ((one64 ∷ replicate 7 zero64) ∷ replicate 7 (replicate 8 zero64), one64 ∷ replicate 7 zero64)
+      ≡ record { a = (one64 ∷ replicate 7 zero64) ∷ replicate 7 (replicate 8 zero64); rhs = one64 ∷ replicate 7 zero64 }
   unfolding equations_of normal_step observe observe_step add_row cell_step design_row design_step range eq add mul of_bits
   left_out = refl

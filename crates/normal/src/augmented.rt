@@ -16,6 +16,7 @@ fn augmented_row(a: &[[f64; 8]; 8], p: usize, m: usize) -> [f64; 16]
     ensures { result ≡ augmented_row a.now m p }
 {
     let mut r = [0.0; 16];
+    // An index, since `mirrored_cell` takes it.
     for q in 0..m {
         r[q] = mirrored_cell(a, p, q);
     }
@@ -29,6 +30,7 @@ pub fn augmented_matrix(a: &[[f64; 8]; 8], m: usize) -> [[f64; 16]; 8]
     ensures { result ≡ augmented_matrix a.now m }
 {
     let mut r = [[0.0; 16]; 8];
+    // An index, since `augmented_row` takes it.
     for p in 0..m {
         r[p] = augmented_row(a, p, m);
     }

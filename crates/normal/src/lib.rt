@@ -6,5 +6,5 @@ mod design;
 mod equations;
 
 pub use augmented::augmented_matrix;
-pub use design::design_row;
-pub use equations::equations_of;
+pub use design::{design_row, predictors_of};
+pub use equations::{Equations, equations_of};

@@ -6,6 +6,7 @@ use Prim.Native.Nat.{ℕ}
 use native.Mathlib.Omega.{arith}
 use lib.Dec.{leb}
 use lib.Ieee.{Float, le}
+use Rattle.std.specs.Prelude.{Ok, Err}
 use Rattle.real.proofs.Cases.{either}
 use Rattle.refusal.specs.declared.Refusal.{Refusal}
 use Rattle.setup.specs.declared.GwrBandwidth.{GwrBandwidth}
@@ -16,18 +17,15 @@ use Rattle.setup.specs.Bandwidth.{Usable}
 use Rattle.setup.specs.Data.{Data}
 use Rattle.setup.specs.Shape.{setup_of, Sized}
 use Rattle.counts.proofs.Bounds.{resolve_some, resolve_few}
-use Rattle.checks.specs.declared.Check.TheVariants as check
 use Rattle.checks.specs.Judge.{judge, ruled, NoneOf, Decides}
 use Rattle.checks.proofs.Judge.{ruled_append, none_append, decided, decides}
 use Rattle.checks.proofs.Tests.{refused_so, given_so}
 use Rattle.input.proofs.Accepted.{Accepted, input_accepted}
 use Rattle.plan.specs.declared.Plan.{Plan}
 use Rattle.plan.specs.declared.Plan.TheVariants.{Settled, Sought}
-use Rattle.plan.specs.declared.Acceptance.{Acceptance}
-use Rattle.plan.specs.declared.Acceptance.TheVariants.{Refused, Planned}
 use Rattle.bounds.specs.Bounds.{greatest_distance, least_distance, least_count, greatest_count}
 use Rattle.input.specs.Checks.{input_tests, seeks_distance, nothing_between, option_tests_at, option_tests, fit_tests}
-use Rattle.plan.specs.Plan.{resolve_initial_bandwidth, distance_plan, count_plan, search_plan, plan_at, plan_of, plan_options_at, plan_options, accept_of}
+use Rattle.plan.specs.Plan.{Acceptance, resolve_initial_bandwidth, distance_plan, count_plan, search_plan, plan_at, plan_of, plan_options_at, plan_options, accept_of}
 
 -- ---- options
 
@@ -89,10 +87,10 @@ pub record PlannedAs (d : Data) (p : ℕ) (o : GwrOptions) (out : ℕ) (q : Plan
   pub is : q ≡ plan_of (setup_of d p o) d
   pub serves : Serves o.bandwidth q
 
-planned_one : {q s : Plan} → Planned q ≡ Planned s → q ≡ s
+planned_one : {q s : Plan} → ◌≡◌ {A = Acceptance} (Ok q) (Ok s) → q ≡ s
 planned_one e = cc
 
-refused_planned : {A : Type 0} {r : Refusal} {q : Plan} → Refused r ≡ Planned q → A
+refused_planned : {A : Type 0} {r : Refusal} {q : Plan} → ◌≡◌ {A = Acceptance} (Err r) (Ok q) → A
 refused_planned e = let z : ◌≡◌ {A = ℕ} 0 1 = cc in absurd (omega arith)
 
 module _ (d : Data) (p : ℕ) (o : GwrOptions) (out : ℕ) where
@@ -100,22 +98,22 @@ module _ (d : Data) (p : ℕ) (o : GwrOptions) (out : ℕ) where
   u = setup_of d p o
 
   -- the input's lists, then the options
-  pub accept_is : accept_of d p o out ≡ ruled (judge (input_tests d p out)) Refused (plan_options u d)
+  pub accept_is : accept_of d p o out ≡ ruled (judge (input_tests d p out)) Err (plan_options u d)
   unfolding accept_of plan_options_at
-  accept_is = ruled_append Refused (Planned (plan_of u d)) (input_tests d p out) (option_tests u d)
+  accept_is = ruled_append Err (Ok (plan_of u d)) (input_tests d p out) (option_tests u d)
 
-  pub accept_refused : {r : Refusal} → judge (input_tests d p out) ≡ check.Refused r → Refused r ≡ accept_of d p o out
-  accept_refused e = refused_so Refused (plan_options u d) e ∙ sym accept_is
+  pub accept_refused : {r : Refusal} → judge (input_tests d p out) ≡ Err r → Err r ≡ accept_of d p o out
+  accept_refused e = refused_so Err (plan_options u d) e ∙ sym accept_is
 
   pub accept_passed : {a : Acceptance} → NoneOf (input_tests d p out) → a ≡ plan_options u d → a ≡ accept_of d p o out
-  accept_passed e f = given_so Refused (plan_options u d) e f ∙ sym accept_is
+  accept_passed e f = given_so Err (plan_options u d) e f ∙ sym accept_is
 
   -- which inputs are refused, and what the others are given
-  pub accept_decides : Decides (fit_tests d p o out) (λ (r : Refusal). accept_of d p o out ≡ Refused r) (accept_of d p o out ≡ Planned (plan_of u d))
+  pub accept_decides : Decides (fit_tests d p o out) (λ (r : Refusal). accept_of d p o out ≡ Err r) (accept_of d p o out ≡ Ok (plan_of u d))
   unfolding accept_of
   accept_decides = decides (fit_tests d p o out) refl
 
-  pub accept_planned : {q : Plan} → accept_of d p o out ≡ Planned q → PlannedAs d p o out q
+  pub accept_planned : {q : Plan} → accept_of d p o out ≡ Ok q → PlannedAs d p o out q
   accept_planned {q} e =
       elim (decided (fit_tests d p o out)) [
         | inl f ↦ refused_planned (sym (accept_decides.refused f.0 f.1) ∙ e)

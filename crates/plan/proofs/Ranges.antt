@@ -10,6 +10,7 @@ use lib.IntN.{pos}
 use lib.Ieee.{Float, nan, inf, fin, binary64, mul, div, lt, le, fits, is_nan, of_bits}
 use lib.Ieee.Fits.{cond-fits, div-fits, mul-fits, of_int-fits, and_l, and_r}
 use lib.Ieee.Scale.{finite}
+use Rattle.std.specs.Prelude.{Ok}
 use Rattle.real.specs.Reals.{greater, lesser, zero64, from_count}
 use Rattle.real.proofs.Counts.{count_natural, count_order}
 use Rattle.real.proofs.SignedOrder.{nat_fin, nat_above, in_fin, le_total, lt→le, div_smono, zero_over}
@@ -23,7 +24,6 @@ use Rattle.setup.specs.Shape.{setup_of, Sized}
 use Rattle.checks.proofs.Judge.{here, later, none_among, none_append}
 use Rattle.plan.specs.declared.Plan.{Plan}
 use Rattle.plan.specs.declared.Plan.TheVariants.{Settled, Sought}
-use Rattle.plan.specs.declared.Acceptance.TheVariants.{Planned}
 use Rattle.bounds.specs.Bounds.{greatest_distance, least_distance, usable_distance, least_count, greatest_count}
 use Rattle.input.specs.Checks.{input_tests, seeks_distance, nothing_between, option_tests_at, option_tests}
 use Rattle.plan.specs.Plan.{distance_plan, count_plan, search_plan, plan_at, accept_of}
@@ -124,7 +124,7 @@ module _ (u : Setup) (s : Sized u) (hi : Float) (held : T (fits binary64 hi)) wh
       told u.options.optimize_bandwidth _ _ (λ t. search_within u.options.bandwidth (subst (λ (z : Bool). Untold z u.options.bandwidth) t e)) (λ _. tt)
 
 -- and so of every accepted job that searches, whose greatest pair distance is a number of binary64
-pub sought_ranged : (d : Data) (p : ℕ) (o : GwrOptions) (out : ℕ) {lo hi : Float} → T (fits binary64 (greatest_distance d.coords (setup_of d p o).n)) → accept_of d p o out ≡ Planned (Sought lo hi) → Ranged lo hi
+pub sought_ranged : (d : Data) (p : ℕ) (o : GwrOptions) (out : ℕ) {lo hi : Float} → T (fits binary64 (greatest_distance d.coords (setup_of d p o).n)) → accept_of d p o out ≡ Ok (Sought lo hi) → Ranged lo hi
 unfolding option_tests_at
 sought_ranged d p o out held e =
     let u = setup_of d p o in

@@ -1,7 +1,8 @@
 -- What an accepted job does, from its options: a final fit at once, or a search first. Definitions only.
-use Rattle.std.specs.Prelude.{ℕ, cond, leb, Float}
+use Rattle.std.specs.Prelude.{ℕ, cond, leb, Float, Result, Ok, Err}
 use Rattle.std.specs.Float.Ieee.{le}
 use Rattle.real.specs.Reals.{from_count}
+use Rattle.refusal.specs.declared.Refusal.{Refusal}
 use Rattle.setup.specs.declared.GwrBandwidth.{GwrBandwidth}
 use Rattle.setup.specs.declared.GwrBandwidth.TheVariants.{Fixed, AdaptiveKnn}
 use Rattle.setup.specs.declared.GwrOptions.{GwrOptions}
@@ -9,12 +10,9 @@ use Rattle.setup.specs.declared.Setup.{Setup}
 use Rattle.setup.specs.Data.{Data}
 use Rattle.setup.specs.Shape.{setup_of}
 use Rattle.counts.specs.Count.{resolve_count}
-use Rattle.checks.specs.declared.Check.{Check}
-use Rattle.checks.specs.Judge.{judge, ruled}
+use Rattle.checks.specs.Judge.{Check, judge, ruled}
 use Rattle.plan.specs.declared.Plan.{Plan}
 use Rattle.plan.specs.declared.Plan.TheVariants.{Settled, Sought}
-use Rattle.plan.specs.declared.Acceptance.{Acceptance}
-use Rattle.plan.specs.declared.Acceptance.TheVariants.{Refused, Planned}
 use Rattle.bounds.specs.Bounds.{greatest_distance, least_distance, least_count, greatest_count}
 use Rattle.input.specs.Checks.{option_tests_at, fit_tests}
 
@@ -47,9 +45,13 @@ plan_at u hi =
 abbrev pub plan_of : Setup → Data → Plan
 plan_of u d = plan_at u (greatest_distance d.coords u.n)
 
+-- what is said of an input: what the job does, or the first refusal
+abbrev pub Acceptance : Type 0
+Acceptance = Result Plan Refusal
+
 -- the plan of an input that a check passes
 abbrev pub accepted : Check → Plan → Acceptance
-accepted k q = ruled k Refused (Planned q)
+accepted k q = ruled k Err (Ok q)
 
 -- 11, 12, then the plan, where hi is the greatest pair distance
 unfoldable pub plan_options_at : Setup → Float → Acceptance

@@ -4,7 +4,6 @@
 mod planning; // what the options ask for, and the whole
 
 pub use planning::{accept, plan_options};
-use refusal::Refusal;
 use setup::GwrBandwidth;
 
 // What an accepted job does: it fits at a bandwidth, or seeks one from lo to hi first.
@@ -12,11 +11,4 @@ use setup::GwrBandwidth;
 pub enum Plan {
     Settled(GwrBandwidth),
     Sought(f64, f64),
-}
-
-// What is said of an input: its first refusal, or what the job does.
-#[derive(Clone, Copy)]
-pub enum Acceptance {
-    Refused(Refusal),
-    Planned(Plan),
 }

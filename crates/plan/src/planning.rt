@@ -1,15 +1,14 @@
 // What the options ask for, and what is said of an input.
 ghost use Rattle.std.specs.Prelude.{◌≡◌, ◌*◌, ◌≤◌, length};
-ghost use Rattle.setup.specs.Data.{trusted_data};
 ghost use Rattle.setup.specs.Shape.{Sized};
 ghost use Rattle.bounds.specs.Bounds.{greatest_distance};
 ghost use Rattle.plan.specs.Plan.{resolve_initial_bandwidth, distance_plan, count_plan, search_plan, plan_at, plan_options_at, accept_of};
 
-use super::{Acceptance, Plan};
+use super::Plan;
 use bounds::{greatest_count, greatest_distance, least_count, least_distance};
-use checks::Check;
 use input::{check_input, check_options, seeks_distance};
-use setup::{GwrBandwidth, GwrOptions, Setup};
+use refusal::Refusal;
+use setup::{Columns, GwrBandwidth, GwrOptions, Setup};
 
 // The bandwidth given, a count resolved.
 fn resolve_initial_bandwidth(bandwidth: GwrBandwidth, n: usize, p: usize) -> GwrBandwidth
@@ -70,19 +69,16 @@ fn plan_at(u: Setup, hi: f64) -> Plan
 }
 
 // Refusals 11 and 12, or what the job does.
-fn plan_options_at(u: Setup, hi: f64) -> Acceptance
+fn plan_options_at(u: Setup, hi: f64) -> Result<Plan, Refusal>
     requires { Sized u }
     ensures { result ≡ plan_options_at u hi }
 {
-    let check = check_options(u.options, hi);
-    match check {
-        Check::Refused(r) => Acceptance::Refused(r),
-        Check::Pass => Acceptance::Planned(plan_at(u, hi)),
-    }
+    check_options(u.options, hi)?;
+    Ok(plan_at(u, hi))
 }
 
 // The same of the coordinates. The greatest pair distance is asked for only where a distance is sought.
-pub fn plan_options(coords: &[f64], u: Setup) -> Acceptance
+pub fn plan_options(coords: &[f64], u: Setup) -> Result<Plan, Refusal>
     requires lengths { length coords.now ≡ 2 * u.n }
     requires sized { Sized u }
     ensures { result ≡ plan_options_at u (greatest_distance coords.now u.n) }
@@ -97,22 +93,14 @@ pub fn plan_options(coords: &[f64], u: Setup) -> Acceptance
 
 // The input checks in order: what an accepted job does, or the first refusal. `out` is the output's length.
 pub fn accept(
-    coords: &[f64],
-    x: &[f64],
-    y: &[f64],
-    trust: &[f64],
+    columns: &Columns<'_>,
     p: usize,
     options: GwrOptions,
     out: usize,
-) -> Acceptance
-    ensures { result ≡ accept_of (trusted_data coords.now x.now y.now trust.now) p options out }
+) -> Result<Plan, Refusal>
+    ensures { result ≡ accept_of columns.now p options out }
 {
-    let input = check_input(coords, x, y, trust, p, out);
-    match input {
-        Check::Refused(r) => Acceptance::Refused(r),
-        Check::Pass => {
-            let n = coords.len() / 2;
-            plan_options(coords, Setup { options, n, p })
-        }
-    }
+    check_input(columns, p, out)?;
+    let n = columns.coords.len() / 2;
+    plan_options(columns.coords, Setup { options, n, p })
 }

@@ -1,5 +1,6 @@
 -- Lists of which every number meets a test: each of them does; and the walk over them, in which what is passed and what is left decide together.
-use Rattle.std.proofs.Common.{◌≡◌, ℕ, zero, suc, ◌+◌, ◌-◌, ◌*◌, ◌<◌, ◌≤◌, Bool, true, false, ◌&&◌, T, List, [], ◌∷◌, length, get_or, take, drop, sym, refl, ap, ◌∙◌, subst, inl, inr, le_of_suc-le-suc, not-suc-le-zero, add-one, arith, drop_of_length-le, length-take-le, drop-cons, get_or-take}
+use Rattle.std.proofs.Common.{◌≡◌, ℕ, zero, suc, ◌+◌, ◌-◌, ◌*◌, ◌<◌, ◌≤◌, Bool, true, false, ◌&&◌, T, List, [], ◌∷◌, length, get_or, take, drop, sym, refl, ap, ◌∙◌, subst, inl, inr, le_of_suc-le-suc, not-suc-le-zero, add-one, arith, drop_of_length-le, length-take-le, length-drop, drop-cons, get_or-take}
+use Rattle.std.proofs.lemmas.List.{take_all}
 use mathlib.Core.Path.{subst⁻¹}
 use mathlib.Core.Bool.{and_assoc, and-true}
 use lib.Ieee.{Float, nan, binary64, mul, eq}
@@ -29,6 +30,10 @@ all_parts f zero l = refl
 all_parts f (suc k) [] = refl
 all_parts f (suc k) (v ∷ vs) = rw (all_parts f k vs) (sym (and_assoc (f v) (all_of f (take k vs)) (all_of f (drop k vs))))
 
+-- as two slices
+pub all_of_parts : (f : Float → Bool) (k : ℕ) (l : List Float) → (all_of f (take k l) && all_of f (take (length l - k) (drop k l))) ≡ all_of f l
+all_of_parts f k l = sym (all_parts f k l ∙ ap (λ (m : List Float). all_of f (take k l) && all_of f m) (sym (take_all _ (drop k l) (omega (arith, length-drop k l)))))
+
 -- ---- the walk
 
 -- the first i numbers of l meet the test, if good
@@ -37,12 +42,8 @@ pub record Passed (f : Float → Bool) (l : List Float) (i : ℕ) (good : Bool) 
   pub is : all_of f l ≡ (good && all_of f (drop i l))
 
 module _ {f : Float → Bool} {l : List Float} where
-  pub from : {k : ℕ} {good : Bool} → k ≤ length l → good ≡ all_of f (take k l) → Passed f l k good
-  from {k} h e = record { within = h; is = rw e (all_parts f k l) }
-
   pub none : Passed f l 0 true
-  unfolding all_of
-  none = from (omega arith) refl
+  none = record { within = omega arith; is = refl }
 
   pub more : {i : ℕ} {good next : Bool} → Passed f l i good → i < length l → next ≡ (good && f (get_or l i nan)) → Passed f l (i + 1) next
   unfolding all_of
@@ -56,26 +57,22 @@ module _ {f : Float → Bool} {l : List Float} where
   unfolding all_of
   done {i} {good} r h = sym (r.is ∙ rw (drop_of_length-le l h) (and-true good))
 
--- z tells whether the numbers from k to i - 1 are finite
-pub record Multiplied (l : List Float) (k i : ℕ) (z : Float) : Type 0 where
-  rest : Bool
-  pub tells : Tells z rest
-  pub passed : Passed finite l i (all_of finite (take k l) && rest)
+-- z tells whether the first i numbers are finite
+pub record Multiplied (l : List Float) (i : ℕ) (z : Float) : Type 0 where
+  good : Bool
+  pub tells : Tells z good
+  pub passed : Passed finite l i good
 
-module _ {l : List Float} {k : ℕ} where
-  pub times_none : k ≤ length l → Multiplied l k k zero64
-  times_none h = record { rest = true; tells = zero_tells; passed = from h (and-true (all_of finite (take k l))) }
+module _ {l : List Float} where
+  pub times_none : Multiplied l 0 zero64
+  times_none = record { good = true; tells = zero_tells; passed = none }
 
-  pub times_more : {i : ℕ} {z : Float} → Multiplied l k i z → i < length l → Multiplied l k (i + 1) (mul binary64 z (get_or l i nan))
+  pub times_more : {i : ℕ} {z : Float} → Multiplied l i z → i < length l → Multiplied l (i + 1) (mul binary64 z (get_or l i nan))
   times_more {i} {z} r h =
-      record {
-        rest = r.rest && finite (get_or l i nan);
-        tells = times_tells (get_or l i nan) r.tells;
-        passed = more r.passed h (sym (and_assoc (all_of finite (take k l)) r.rest (finite (get_or l i nan))));
-      }
+      record { good = r.good && finite (get_or l i nan); tells = times_tells (get_or l i nan) r.tells; passed = more r.passed h refl }
 
-  pub times_done : {i : ℕ} {z : Float} → Multiplied l k i z → length l ≤ i → (all_of finite (take k l) && eq z zero64) ≡ all_of finite l
-  times_done r h = ap (λ (b : Bool). all_of finite (take k l) && b) (told r.tells) ∙ done r.passed h
+  pub times_done : {i : ℕ} {z : Float} → Multiplied l i z → length l ≤ i → eq z zero64 ≡ all_of finite l
+  times_done r h = told r.tells ∙ done r.passed h
 
 -- ---- four at a time, h apart
 

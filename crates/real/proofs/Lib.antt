@@ -6,5 +6,6 @@ pub mod Rounding
 pub mod Toward
 pub mod RoundedOnce
 pub mod Finite
+pub mod Std
 pub mod Closed
 pub mod Cases

@@ -4,7 +4,9 @@
 ghost use Rattle.std.specs.Prelude.{◌≡◌};
 ghost use Rattle.refusal.specs.Numbers.{refusal_number};
 
-#[derive(Clone, Copy)]
+use std::fmt;
+
+#[derive(Clone, Copy, PartialEq, Eq, Debug)]
 pub enum Refusal {
     // From the input.
     NoCoordinates,
@@ -64,5 +66,57 @@ impl Refusal {
             Refusal::TrustOutOfRange => 26,
             Refusal::WeightSumNotPositive => 27,
         }
+    }
+}
+
+impl From<Refusal> for u32 {
+    ghost from_gives = { λ refusal number. number ≡ refusal_number refusal };
+
+    fn from(refusal: Refusal) -> u32 {
+        refusal.number()
+    }
+}
+
+// What is wrong, in the words of README's table.
+impl fmt::Display for Refusal {
+    fn fmt<W: fmt::Write>(&self, f: &mut fmt::Formatter<W>) -> fmt::Result {
+        f.write_str(match self {
+            Refusal::NoCoordinates => "no coordinates",
+            Refusal::OddCoordinates => "odd coordinate count",
+            Refusal::TooManyObservations => "more than 512 pantries",
+            Refusal::TooManyPredictors => "more than 7 predictors",
+            Refusal::PredictorLength => "predictor length is not n × p",
+            Refusal::ResponseLength => "response length is not n, or number of trusts is not n",
+            Refusal::TooFewObservations => "fewer than p + 1 pantries",
+            Refusal::ResponseNotFinite => "a response is not finite",
+            Refusal::CoordinateNotFinite => "a coordinate is not finite",
+            Refusal::PredictorNotFinite => "a predictor is not finite",
+            Refusal::UnusableDistance => "unsearched distance not finite, or not above zero",
+            Refusal::NoDistanceRange => "no distance to search between",
+            Refusal::OutputTooShort => "output too short",
+            Refusal::TrustOutOfRange => "a trust is not in 0..1",
+            Refusal::Singular => "singular",
+            Refusal::InverseNotFinite => "inverse not finite",
+            Refusal::CoefficientNotFinite => "coefficient not finite",
+            Refusal::DeviationNotFinite => "root of mean square not finite",
+            Refusal::WeightSumNotPositive => "weight sum not above zero",
+            Refusal::UnknownNumber => "unknown kernel or kind number",
+            Refusal::UnfitRecord => "record unfit",
+            Refusal::AlreadyEnded => "already ended",
+            Refusal::LengthsDiffer => "lengths are not the record's",
+        })
+    }
+}
+
+#[cfg(test)]
+mod tests {
+    use super::*;
+    use std::test::Fail;
+
+    #[test]
+    fn says_what_is_wrong(rt: HostRuntime) -> Result<(), Fail> {
+        let text = format!(in rt.alloc(); "{}", Refusal::OddCoordinates)?;
+        assert_eq!(rt; text.as_str(), "odd coordinate count");
+        Ok(())
     }
 }

@@ -7,17 +7,10 @@
 // Group 0 is of the weight call, with its distance in the place of the number of predictors.
 #![tactic(auto)]
 
-ghost use Rattle.std.specs.Prelude.{◌≤◌, length};
+ghost use Rattle.std.specs.Prelude.{◌≡◌, ◌+◌, ◌≤◌, length};
 
 use std::io;
-use std::io::{Read, Stdin};
-
-// What became of a record.
-const END: u64 = 0;
-
-const DIFFERS: u64 = 1;
-
-const AGREES: u64 = 2;
+use std::io::Stdin;
 
 // The group of the weight call.
 const WEIGHTS: u64 = 0;
@@ -28,144 +21,140 @@ struct Tally {
     agreed: u64,
 }
 
-// A length, or `most` where that is less.
-fn at_most(v: u64, most: usize) -> usize
-    ensures { result ≤ most }
-{
-    let w = v as usize;
-    if w < most { w } else { most }
+// The byte lengths of a record's parts, none above that of the buffer for it.
+#[derive(Clone, Copy)]
+struct Lengths {
+    coords: usize,
+    x: usize,
+    y: usize,
+    out: usize,
+    summary: usize,
+    ghost input_fits: { (coords ≤ 8208) × (x ≤ 28672) × (y ≤ 4112) },
+    ghost output_fits: { (out ≤ 45056) × (summary ≤ 64) },
 }
 
-// The number that the call of a record answers.
-fn answered(
-    head: &[u8],
-    coords: &[u8],
-    x: &[u8],
-    y: &[u8],
-    out: &mut [u8],
-    summary: &mut [u8],
-) -> u32
-    requires { 88 ≤ length head.now }
-{
-    let p = wire::load(head, 40);
-    let kernel = wire::load(head, 48);
-    let kind = wire::load(head, 56);
-    let bandwidth = wire::load(head, 64);
-    if wire::load(head, 80) == WEIGHTS {
-        return weighing::weight_bytes(kernel, p, bandwidth, out);
-    }
-    calls::fit_bytes(coords, x, y, p, kernel, kind, bandwidth, out, summary)
-}
-
-// Whether the call answers what the record says, and leaves the bytes that it says.
-fn agrees(
-    head: &[u8],
-    coords: &[u8],
-    x: &[u8],
-    y: &[u8],
-    out: &mut [u8],
-    summary: &mut [u8],
-    out_after: &[u8],
-    summary_after: &[u8],
-) -> u64
-    requires { 88 ≤ length head.now }
-{
-    let number = answered(head, coords, x, y, &mut *out, &mut *summary);
-    if number as u64 != wire::load(head, 72) {
-        return DIFFERS;
-    }
-    if &*out != out_after {
-        return DIFFERS;
-    }
-    if &*summary != summary_after {
-        return DIFFERS;
-    }
-    AGREES
-}
-
-// A record's parts, taken apart. Output and summary are lent with A5 in every byte.
-fn replay_read(head: &[u8], parts: &[u8], out: &mut [u8], summary: &mut [u8]) -> u64
-    requires { (88 ≤ length head.now) × (45056 ≤ length out.old) × (64 ≤ length summary.old) }
-{
-    let out_len = at_most(wire::load(head, 24), 45056);
-    let summary_len = at_most(wire::load(head, 32), 64);
-    let a = at_most(wire::load(head, 0), 8208);
-    let b = a + at_most(wire::load(head, 8), 28672);
-    let c = b + at_most(wire::load(head, 16), 4112);
-    let d = c + out_len;
-    let e = d + summary_len;
-    if parts.len() < e {
-        return DIFFERS;
-    }
-    agrees(
-        head,
-        &parts[..a],
-        &parts[a..b],
-        &parts[b..c],
-        &mut out[..out_len],
-        &mut summary[..summary_len],
-        &parts[c..d],
-        &parts[d..e],
-    )
-}
-
-// How many bytes follow a head.
-fn parts_len(head: &[u8]) -> usize
-    requires { 88 ≤ length head.now }
-    ensures { result ≤ 86112 }
-{
-    let a = at_most(wire::load(head, 0), 8208);
-    let b = a + at_most(wire::load(head, 8), 28672);
-    let c = b + at_most(wire::load(head, 16), 4112);
-    let d = c + at_most(wire::load(head, 24), 45056);
-    d + at_most(wire::load(head, 32), 64)
-}
-
-// Reads standard input until the part is full or the input ends; a read that fails ends it too.
-fn read_part(mut stdin: Stdin, part: &mut [u8]) -> usize
-    ensures { result ≤ length part.new }
-{
-    let mut done = 0;
-    while done < part.len() {
-        match stdin.read(&mut part[done..]) {
-            Ok(0) | Err(_) => break,
-            Ok(n) => done += n,
+impl Lengths {
+    fn of(head: &[u8; 88]) -> Lengths {
+        Lengths {
+            coords: length_at(head, 0, 8208),
+            x: length_at(head, 8, 28672),
+            y: length_at(head, 16, 4112),
+            out: length_at(head, 24, 45056),
+            summary: length_at(head, 32, 64),
         }
     }
-    done
+
+    // How many bytes follow the head.
+    fn all(self) -> usize
+        ensures whole { result ≡ self.coords + self.x + self.y + self.out + self.summary }
+        ensures most { result ≤ 86112 }
+    {
+        self.coords + self.x + self.y + self.out + self.summary
+    }
 }
 
-fn replay_parts(stdin: Stdin, head: &[u8]) -> u64
-    requires { 88 ≤ length head.now }
+// A length, or `most` where that is less.
+fn length_at(head: &[u8; 88], at: usize, most: usize) -> usize
+    requires { at ≤ 80 }
+    ensures { result ≤ most }
 {
-    let mut parts = [0u8; 86112];
+    (wire::load(head, at) as usize).min(most)
+}
+
+// A record: its head, what its call is given, and output and summary as they are after the call.
+#[derive(Clone, Copy)]
+struct Record<'a> {
+    head: &'a [u8; 88],
+    coords: &'a [u8],
+    x: &'a [u8],
+    y: &'a [u8],
+    out: &'a [u8],
+    summary: &'a [u8],
+}
+
+impl Record<'_> {
+    // The number that the call answers.
+    fn answered(&self, out: &mut [u8], summary: &mut [u8]) -> u32 {
+        let head = self.head;
+        let p = wire::load(head, 40);
+        let kernel = wire::load(head, 48);
+        let kind = wire::load(head, 56);
+        let bandwidth = wire::load(head, 64);
+        if wire::load(head, 80) == WEIGHTS {
+            return request::answer_number(weighing::weight_bytes(kernel, p, bandwidth, out));
+        }
+        let answer = calls::fit_bytes(
+            self.coords,
+            self.x,
+            self.y,
+            p,
+            kernel,
+            kind,
+            bandwidth,
+            out,
+            summary,
+        );
+        request::answer_number(answer)
+    }
+
+    // Whether the call answers what the record says, and leaves the bytes that it says.
+    fn agrees(&self, out: &mut [u8], summary: &mut [u8]) -> bool {
+        let number = self.answered(&mut *out, &mut *summary);
+        let head = self.head;
+        u64::from(number) == wire::load(head, 72) && &*out == self.out && &*summary == self.summary
+    }
+}
+
+// Whether the call of a record agrees, of whole parts. Output and summary are lent with A5 in every byte.
+fn replay_parts(head: &[u8; 88], lengths: Lengths, parts: &[u8]) -> bool
+    requires { length parts.now ≡ lengths.coords + lengths.x + lengths.y + lengths.out + lengths.summary }
+{
     let mut out = [165u8; 45056];
     let mut summary = [165u8; 64];
-    let all = parts_len(head);
-    let got = read_part(stdin, &mut parts[..all]);
-    replay_read(head, &parts[..got], &mut out, &mut summary)
+    let (coords, behind) = parts.split_at(lengths.coords);
+    let (x, behind) = behind.split_at(lengths.x);
+    let (y, behind) = behind.split_at(lengths.y);
+    let (out_after, summary_after) = behind.split_at(lengths.out);
+    let record = Record {
+        head,
+        coords,
+        x,
+        y,
+        out: out_after,
+        summary: summary_after,
+    };
+    record.agrees(&mut out[..lengths.out], &mut summary[..lengths.summary])
 }
 
-fn replay_record(stdin: Stdin) -> u64 {
+// Whether the call of a record agrees, whose parts are read; one whose parts are cut short differs.
+fn replay_behind(stdin: &mut Stdin, head: &[u8; 88]) -> bool {
+    let lengths = Lengths::of(head);
+    let all = lengths.all();
+    let mut parts = [0u8; 86112];
+    let got = intake::read_part(stdin, &mut parts[..all]);
+    got == all && replay_parts(head, lengths, &parts[..all])
+}
+
+// The same of the next record, or `None` where the input has no whole head more.
+fn replay_record(stdin: &mut Stdin) -> Option<bool> {
     let mut head = [0u8; 88];
-    let got = read_part(stdin, &mut head);
+    let got = intake::read_part(stdin, &mut head);
     if got < 88 {
-        return END;
+        return None;
     }
-    replay_parts(stdin, &head)
+    Some(replay_behind(stdin, &head))
 }
 
-// A proved loop has to end, and nothing says that the input does, so the loop counts its turns down.
-fn replay_all(stdin: Stdin) -> Tally {
-    let mut turns = 1000000u64;
+// A proved loop has to end, and nothing says that the input does, so the loop counts its turns.
+fn replay_all(mut stdin: Stdin) -> Tally {
     let mut records = 0u64;
     let mut agreed = 0u64;
-    let mut last = replay_record(stdin);
-    while turns > 0 && last != END {
-        turns = turns - 1;
-        records = std::num::wrapping_add_u64(records, 1);
-        agreed = std::num::wrapping_add_u64(agreed, last / AGREES);
-        last = replay_record(stdin);
+    for _ in 0..1_000_000 {
+        let Some(agrees) = replay_record(&mut stdin) else {
+            break;
+        };
+        records = records.saturating_add(1);
+        agreed = agreed.saturating_add(u64::from(agrees));
     }
     Tally { records, agreed }
 }

@@ -1,2 +1,3 @@
 pub mod Options
 pub mod Lengths
+pub mod Answer

@@ -9,10 +9,11 @@ use native.Mathlib.Numerals.{add-one}
 use native.Mathlib.Decide.{dec_le}
 use native.Mathlib.Omega.{arith}
 use borrow.Author.Tests.{lt-ltb, le-ltb}
-use lib.Dec.{T, leb, leb→le, nleb→lt}
+use lib.Dec.{ltb, T, leb, leb→le, nleb→lt}
 use lib.Pow.{pow_mono, pow-add, pow_pos}
 use Rattle.root.specs.Root.{root_digit, isqrt, nearest_root}
-use Rattle.root.specs.Parts.{Rooted, Parted, one_if_below}
+use Rattle.std.specs.Int.{from_bool}
+use Rattle.root.specs.Parts.{Rooted, Parted}
 
 -- ---- the digit loop: after i turns q has i digits, and with what is left it makes the first i pairs of digits of a
 pub record Digits (a q rem c i : ℕ) : Type 0 where
@@ -219,15 +220,14 @@ module _ (a g r : ℕ) (high : a < 2 ^ 54 - 1) (e : r + g * g ≡ a * 2 ^ 52 + 2
       s : g * g ≡ (g - 1) * (g - 1) + 2 * (g - 1) + 1
       s = ap (λ (x : ℕ). x * x) (sym k) ∙ sq_next (g - 1)
 
-pub is_one : (m n : ℕ) → m < n → one_if_below m n ≡ 1
-unfolding one_if_below
+-- 1 where m is below n, else 0
+is_one : (m n : ℕ) → m < n → from_bool (ltb m n) ≡ 1
 is_one m n h = rw (lt-ltb m n h)
 
-pub is_none : (m n : ℕ) → n ≤ m → one_if_below m n ≡ 0
-unfolding one_if_below
+is_none : (m n : ℕ) → n ≤ m → from_bool (ltb m n) ≡ 0
 is_none m n h = rw (le-ltb m n h)
 
-pub one_at_most : (m n : ℕ) {u : ℕ} → u ≡ one_if_below m n → u ≤ 1
+pub one_at_most : (m n : ℕ) {u : ℕ} → u ≡ from_bool (ltb m n) → u ≤ 1
 one_at_most m n {u} e = go (dec_le n m)
   where
     go : Dec (n ≤ m) → u ≤ 1
@@ -237,7 +237,7 @@ one_at_most m n {u} e = go (dec_le n m)
 -- which of the three it is, by the two tests at once
 pub chosen :
     (a g r u d : ℕ) → a < 2 ^ 54 - 1 → 0 < g → r + g * g ≡ a * 2 ^ 52 + 2 ^ 56
-    → u ≡ one_if_below (2 ^ 56 + g) r → d ≡ one_if_below (r + g) (2 ^ 56 + 1)
+    → u ≡ from_bool (ltb (2 ^ 56 + g) r) → d ≡ from_bool (ltb (r + g) (2 ^ 56 + 1))
     → 2 ^ 56 + 2 < r + 3 * g → r ≤ 2 ^ 56 + 2 + 3 * g → g + u - d ≡ nearest_root (a * 2 ^ 52)
 chosen a g r u d high p e up down low top = go (dec_le r (2 ^ 56 + g)) (dec_le (r + g) (2 ^ 56))
   where

@@ -1,5 +1,5 @@
 -- What the parts of the code ensure: inside `root` alone. Definitions only.
-use Rattle.std.specs.Prelude.{ℕ, ◌+◌, ◌*◌, ◌/◌, ◌^◌, ◌%◌, ◌-◌, ◌≤◌, ◌<◌, ◌≡◌, cond, ltb, eqb}
+use Rattle.std.specs.Prelude.{ℕ, ◌+◌, ◌*◌, ◌/◌, ◌^◌, ◌%◌, ◌-◌, ◌≤◌, ◌<◌, ◌≡◌, cond, eqb}
 
 -- q and r are the whole root of m and what is left of m
 pub record Rooted (m q r : ℕ) : Type 0 where
@@ -17,7 +17,3 @@ pub record Parted (v len a h : ℕ) : Type 0 where
 -- the units of the bit pattern of a positive finite binary64
 unfoldable pub units_of_bits : ℕ → ℕ
 units_of_bits b = cond (eqb (b / 2 ^ 52) 0) b ((2 ^ 52 + b % 2 ^ 52) * 2 ^ (b / 2 ^ 52 - 1))
-
--- 1 where m is below n, else 0
-unfoldable pub one_if_below : ℕ → ℕ → ℕ
-one_if_below m n = cond (ltb m n) 1 0

@@ -26,6 +26,7 @@ struct Parts {
 
 // The parts of a number of `size` digits, the first 53 of which are `sig`: an even length leaves one digit more in a. Lengths
 // are even and odd by chance, so there is no branch.
+#[tactic(auto, using(crate::proofs::Powers::by_length))]
 fn halved(sig: u64, size: u64) -> Parts
     requires { (size < 2099) × (2 ^ 52 ≤ sig) × (sig < 2 ^ 53) }
     ensures { Parted (sig * 2 ^ (size + 53)) size result.a result.h }
@@ -38,6 +39,7 @@ fn halved(sig: u64, size: u64) -> Parts
 
 // The parts of the number of units of 2^-1074 in the positive finite f64 with the pattern b. A subnormal is shifted by its
 // leading zeros, and a normal number has its leading digit put back.
+#[tactic(auto, using(crate::proofs::Powers::subnormal))]
 fn split(b: u64) -> Parts
     requires not_zero { 0 < b }
     requires finite_pattern { b < 2047 * 2 ^ 52 }
@@ -45,8 +47,8 @@ fn split(b: u64) -> Parts
 {
     let field = b / 0x10_0000_0000_0000;
     if field == 0 {
-        let z = u64::leading_zeros(b);
-        halved(b << (z - 11), 64 - z as u64)
+        let z = b.leading_zeros();
+        halved(b << (z - 11), 64 - u64::from(z))
     } else {
         halved(0x10_0000_0000_0000 + b % 0x10_0000_0000_0000, field + 52)
     }
@@ -58,10 +60,8 @@ fn positive(x: f64, y: f64) -> f64
     requires below_infinity { lt x inf64 ≡ true }
     ensures { result ≡ root_units (in_units x) }
 {
-    let b = f64::to_bits(x);
-    let p = split(b);
-    let a = p.a;
-    let q = quick(a, y);
+    let p = split(x.to_bits());
+    let q = quick(p.a, y);
     f64::from_bits((p.h + 484) * 0x10_0000_0000_0000 + q)
 }
 
@@ -71,13 +71,13 @@ pub fn sqrt_near(x: f64, y: f64) -> f64
     ensures { result ≡ root x }
 {
     if x > 0.0 {
-        if x < f64::from_bits(0x7FF0_0000_0000_0000) {
+        if x < f64::INFINITY {
             return positive(x, y);
         }
         return x;
     }
     if x < 0.0 {
-        return 0.0 / 0.0;
+        return f64::NAN;
     }
     x
 }

@@ -1,11 +1,12 @@
 // The square root from a guess, in integers: fast where the guess is near, and right whatever it is.
 ghost use Rattle.std.specs.Prelude.{◌≡◌, ◌+◌, ◌*◌, ◌^◌, ◌-◌, ◌≤◌, ◌<◌};
 ghost use Rattle.root.specs.Root.{nearest_root};
-ghost use Rattle.root.specs.Parts.{one_if_below};
 
 use super::plain::plain;
 
-// a * 2^52 - g * g + 2^56, where g is near enough to the root that every step fits in 64 bits; else 0.
+// a * 2^52 - g * g + 2^56, where g is near enough to the root that every step fits in 64 bits; else 0, and no Option: `settle` refuses
+// a 0 by the test that it makes of every other number.
+#[tactic(auto, using(crate::proofs::Squares::guess_square))]
 fn excess(a: u64, g: u64) -> u64
     requires { (a < 2 ^ 54) × (g < 2 ^ 53) }
     ensures { (0 < result → result + g * g ≡ a * 2 ^ 52 + 2 ^ 56) × (result < 2 ^ 58) }
@@ -37,13 +38,6 @@ fn excess(a: u64, g: u64) -> u64
     rest - square
 }
 
-// 1 where m is below n, else 0.
-fn one_if_below(m: u64, n: u64) -> u64
-    ensures { result ≡ one_if_below m n }
-{
-    if m < n { 1 } else { 0 }
-}
-
 // The number nearest to the root of a * 2^52: the guess g or a neighbour of it, if its square says so, and else digit by digit.
 // One guess in four is off by one, so which of the three it is takes no branch.
 fn settle(a: u64, g: u64) -> u64
@@ -51,8 +45,8 @@ fn settle(a: u64, g: u64) -> u64
     ensures { result ≡ nearest_root (a * 2 ^ 52) }
 {
     let r = excess(a, g);
-    let up = one_if_below(0x100_0000_0000_0000 + g, r);
-    let down = one_if_below(r + g, 0x100_0000_0000_0001);
+    let up = u64::from(0x100_0000_0000_0000 + g < r);
+    let down = u64::from(r + g < 0x100_0000_0000_0001);
     if 0x100_0000_0000_0002 < r + 3 * g {
         if r <= 0x100_0000_0000_0002 + 3 * g {
             return g + up - down;
@@ -66,9 +60,9 @@ pub fn quick(a: u64, y: f64) -> u64
     requires { (2 ^ 52 ≤ a) × (a < 2 ^ 54 - 1) }
     ensures { result ≡ nearest_root (a * 2 ^ 52) }
 {
-    if y == y {
-        let g = f64::to_bits(y) % 0x10_0000_0000_0000;
-        return settle(a, g + 0x10_0000_0000_0000);
+    if y.is_nan() {
+        return plain(a);
     }
-    plain(a)
+    let g = y.to_bits() % 0x10_0000_0000_0000;
+    settle(a, g + 0x10_0000_0000_0000)
 }

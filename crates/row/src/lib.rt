@@ -1,30 +1,18 @@
 // The output row of a location.
 #![tactic(auto)]
 
-ghost use Rattle.std.specs.Prelude.{◌≡◌, ◌++◌, ◌+◌, ◌*◌, ◌≤◌, ◌<◌, length, take, drop};
+ghost use Rattle.std.specs.Prelude.{◌≡◌, ◌++◌, ◌+◌, ◌*◌, ◌≤◌, ◌<◌, length, drop};
 ghost use Rattle.row.specs.Row.{row_of, put_row};
 
 use evaluate::Values;
-
-// Writes the first m of beta to the start of out.
-fn copy_in(out: &mut [f64], beta: [f64; 8], m: usize)
-    requires { (m ≤ 8) × (m ≤ length out.old) }
-    ensures { out.new ≡ take m beta ++ drop m out.old }
-{
-    for q in 0..m {
-        out[q] = beta[q];
-    }
-}
 
 // Writes a row to the start of out.
 fn write_row(out: &mut [f64], beta: [f64; 8], m: usize, v: Values)
     requires { (m ≤ 8) × (m + 3 ≤ length out.old) }
     ensures { out.new ≡ row_of beta m v ++ drop (m + 3) out.old }
 {
-    copy_in(&mut *out, beta, m);
-    out[m] = v.predicted;
-    out[m + 1] = v.residual;
-    out[m + 2] = v.local_r2;
+    out[..m].copy_from_slice(&beta[..m]);
+    out[m..m + 3].copy_from_slice(&[v.predicted, v.residual, v.local_r2]);
 }
 
 // Row i of the output: the part that starts at i * (m + 3) is lent on.

@@ -1,4 +1,6 @@
 -- The search is `golden_section_min` as 000 has it, variable by variable.
+use Rattle.std.specs.Prelude.{Result, Ok, Err}
+use Rattle.refusal.specs.declared.Refusal.{Refusal}
 use mathlib.Core.Path.{◌≡◌, refl, ap, subst⁻¹, ◌∙◌}
 use mathlib.Core.Bool.{Bool, true, false, cond, not}
 use Prim.Native.Nat.{ℕ, zero, suc, ◌+◌}
@@ -9,8 +11,6 @@ use Rattle.real.specs.Reals.{lesser}
 use Rattle.real.proofs.SignedOrder.{apart, nlt→le}
 use Rattle.setup.specs.declared.Setup.{Setup}
 use Rattle.setup.specs.Data.{Data}
-use Rattle.criterion.specs.declared.Criterion.{Criterion}
-use Rattle.criterion.specs.declared.Criterion.TheVariants as criterion
 use Rattle.criterion.specs.Aicc.{score_of}
 use Rattle.golden.specs.declared.Bracket.{Bracket}
 use Rattle.golden.specs.Golden.{start_of, second_of, aim_of, narrow_of, tight_of}
@@ -22,12 +22,12 @@ use Rattle.search.specs.Search.{round_of, opened_of, golden_of}
 use Rattle.search.specs.Literal.{Variables, loop_body, loop_for, before_loop, golden_section_min}
 
 -- a score is no NaN
-pub score_num : (c : Criterion) → T (not (is_nan (score_of c)))
+pub score_num : (c : Result Float Refusal) → T (not (is_nan (score_of c)))
 unfolding score_of is_nan
-score_num (criterion.Value nan) = tt
-score_num (criterion.Value (inf s)) = tt
-score_num (criterion.Value (fin s m e)) = tt
-score_num (criterion.Refused r) = tt
+score_num (Ok nan) = tt
+score_num (Ok (inf s)) = tt
+score_num (Ok (fin s m e)) = tt
+score_num (Err r) = tt
 
 -- `fc.min(fd)` is fc where fc ≤ fd, else fd
 pub lesser_is : (x y : Float) → T (not (is_nan x)) → T (not (is_nan y)) → lesser x y ≡ cond (le x y) x y

@@ -1,8 +1,11 @@
 -- The arms of the search's code.
 use mathlib.Core.Path.{◌≡◌, sym, ap, ◌∙◌}
 use mathlib.Core.Bool.{Bool, true, false, cond}
-use Prim.Native.Nat.{ℕ, ◌+◌}
+use Prim.Native.Nat.{ℕ, ◌+◌, ◌≤◌}
+use native.Mathlib.Omega.{arith}
 use lib.Ieee.{Float}
+use Rattle.real.specs.Fold.{range}
+use Rattle.real.proofs.Fold.{kept, split}
 use Rattle.setup.specs.declared.GwrBandwidth.{GwrBandwidth}
 use Rattle.setup.specs.declared.Setup.{Setup}
 use Rattle.setup.specs.Data.{Data}
@@ -40,6 +43,18 @@ module _ (u : Setup) (d : Data) where
       ∙ ap (λ (x : Bracket). search x (tight_of x) (s.solves + t.solves)) hg
       ∙ ap (λ (x : Trial). round_with s x) (ht ∙ ap (λ (x : Float). trial_of u d x) hp)
       ∙ sym (ap (λ (x : Bool). cond x s (round_with s (trial_of u d (aim_of s.bracket)))) e)
+
+  -- and so to the end
+  pub over_rest : (i : ℕ) (s₀ s : Search) → i ≤ 100 → s.over ≡ true → s ≡ range (round_of u d) 0 i s₀ → s ≡ range (round_of u d) 0 100 s₀
+  over_rest i s₀ s h e q =
+      let f = round_of u d in
+      sym (kept f i 100 (λ (t : Search). t ≡ s) (λ k t l p. ap (f k) p ∙ sym (round_over k s e)) (range f 0 i s₀) h (sym q))
+      ∙ split f s₀ 0 i 100 (omega arith) h
+
+  -- it is not before the rounds
+  pub opened_on : (g : Bracket) (s : Search) → s ≡ opened_of u d g → s.over ≡ false
+  unfolding opened_of
+  opened_on g s e = ap (λ (t : Search). t.over) e
 
   pub optimum_is : (lo hi : Float) (s : Search) (b : GwrBandwidth) → s ≡ golden_of u d lo hi → b ≡ bandwidth_at u s.bracket.best
       → ◌≡◌ {A = Optimum} (record { bandwidth = b; solves = s.solves }) (optimize_bandwidth u d lo hi)

@@ -1,4 +1,6 @@
 -- A trial, and how many solves trials and searches make: laws of the definitions.
+use Rattle.std.specs.Prelude.{Result}
+use Rattle.refusal.specs.declared.Refusal.{Refusal}
 use mathlib.Core.Path.{◌≡◌, refl, ap, subst⁻¹, ◌∙◌}
 use mathlib.Core.Bool.{Bool, true, false}
 use mathlib.Core.List.{List, []}
@@ -12,7 +14,6 @@ use Rattle.setup.specs.declared.Setup.{Setup}
 use Rattle.setup.specs.Bandwidth.{Usable}
 use Rattle.setup.specs.Data.{Data}
 use Rattle.setup.specs.Shape.{Sized}
-use Rattle.criterion.specs.declared.Criterion.{Criterion}
 use Rattle.criterion.specs.Aicc.{score_of}
 use Rattle.golden.specs.declared.Bracket.{Bracket}
 use Rattle.golden.specs.Golden.{start_of, aim_of}
@@ -30,7 +31,7 @@ use Rattle.search.specs.Search.{round_of, opened_of, golden_of, optimize_bandwid
 abbrev trial : Float → ℕ → Trial
 trial v n = record { score = v; solves = n }
 
-pub trial_is : (u : Setup) (d : Data) (b : GwrBandwidth) (s : Swept) (after : List Float) (e : Criterion) (v : Float) (k : ℕ) → ◌≡◌ {A = Swept × List Float} (s, after) (fit_all_locations false u d b [])
+pub trial_is : (u : Setup) (d : Data) (b : GwrBandwidth) (s : Swept) (after : List Float) (e : Result Float Refusal) (v : Float) (k : ℕ) → ◌≡◌ {A = Swept × List Float} (s, after) (fit_all_locations false u d b [])
     → e ≡ ending_of u s → v ≡ score_of e → k ≡ solves_of s → trial v k ≡ evaluate_aicc u d b
 trial_is u d b s after e v k hs he hv hk =
     ap (λ (x : Float). trial x k) (hv ∙ ap score_of he)

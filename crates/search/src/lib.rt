@@ -16,10 +16,18 @@ pub struct Trial {
     pub solves: u64,
 }
 
+// A trial that was made: what tells its bandwidth, and what it gave.
+#[derive(Clone, Copy)]
+pub struct Tried {
+    pub key: u64,
+    pub trial: Trial,
+}
+
 // A search: its bracket, whether the bracket has become too narrow to go on, and the solves of all its trials.
 #[derive(Clone, Copy)]
 pub struct Search {
     pub bracket: Bracket,
+    // A flag: 000's search goes on while it is not set, and so does its definition.
     pub over: bool,
     pub solves: u64,
 }

@@ -1,14 +1,12 @@
 // The trials that a search has made. A searched count comes to few counts, and a bracket that has shrunk to the same points
 // again: such trials are looked up, not worked again.
-ghost use Rattle.std.specs.Prelude.{◌≡◌};
-ghost use Rattle.setup.specs.Data.{trusted_data};
-ghost use Rattle.setup.specs.Shape.{Shaped};
+ghost use Rattle.std.specs.Prelude.{◌≡◌, ◌<◌, length};
 ghost use Rattle.search.specs.Trial.{trial_of};
-ghost use Rattle.search.specs.Memo.{key_of, Slot, Remembered};
+ghost use Rattle.search.specs.Memo.{key_of, serves, slot_of, Remembered};
 
-use super::Trial;
 use super::trials::evaluate_aicc;
-use setup::{GwrBandwidth, Setup};
+use super::{Trial, Tried};
+use setup::{GwrBandwidth, Problem};
 
 // What tells a bandwidth from the others of its kind.
 fn key_of(b: GwrBandwidth) -> u64
@@ -20,52 +18,43 @@ fn key_of(b: GwrBandwidth) -> u64
     }
 }
 
-// The entry for a key: of all but the last the first that has the key or is not in use, else the last. An entry is a key and
-// the solves of its trial, of which one in use has some.
-fn slot_of(tried: &[[u64; 2]; 102], key: u64) -> usize
-    ensures { Slot tried.now key result }
+// Whether an entry serves for a key: it is free, or has the key.
+fn serves(held: Option<Tried>, key: u64) -> bool
+    ensures { result ≡ serves key held }
 {
-    for j in 0..101usize {
-        if tried[j][1] == 0 {
-            return j;
-        }
-        if tried[j][0] == key {
-            return j;
-        }
+    match held {
+        None => true,
+        Some(tried) => tried.key == key,
     }
-    101
+}
+
+// The entry for a key: the first that serves, else the last.
+fn slot_of(tried: &[Option<Tried>; 102], key: u64) -> usize
+    ensures value { result ≡ slot_of tried.now key }
+    ensures within { result < 102 }
+{
+    tried
+        .iter()
+        .position(|held| serves(*held, key))
+        .unwrap_or(101)
 }
 
 // The trial at a point of the search: what an earlier trial at the same bandwidth left, or a sweep, which is remembered.
-pub fn trial_of(
-    coords: &[f64],
-    x: &[f64],
-    y: &[f64],
-    trust: &[f64],
-    u: Setup,
-    point: f64,
-    tried: &mut [[u64; 2]; 102],
-    scores: &mut [f64; 102],
-) -> Trial
-    requires shaped { Shaped u (trusted_data coords.now x.now y.now trust.now) }
-    requires remembered { Remembered u (trusted_data coords.now x.now y.now trust.now) tried.old scores.old }
-    ensures value { result ≡ trial_of u (trusted_data coords.now x.now y.now trust.now) point }
-    ensures still_remembered { Remembered u (trusted_data coords.now x.now y.now trust.now) tried.new scores.new }
+pub fn trial_of(problem: &Problem<'_>, point: f64, tried: &mut [Option<Tried>; 102]) -> Trial
+    requires remembered { Remembered problem.now.setup problem.now.columns tried.old }
+    ensures value { result ≡ trial_of problem.now.setup problem.now.columns point }
+    ensures still_remembered { Remembered problem.now.setup problem.now.columns tried.new }
 {
+    let u = problem.setup();
     let b = bounds::bandwidth_at(u, point);
     let key = key_of(b);
     let j = slot_of(&*tried, key);
-    let held = tried[j];
-    if held[0] == key {
-        if held[1] > 0 {
-            return Trial {
-                score: scores[j],
-                solves: held[1],
-            };
+    if let Some(held) = tried[j] {
+        if held.key == key {
+            return held.trial;
         }
     }
-    let t = evaluate_aicc(coords, x, y, trust, u, b);
-    tried[j] = [key, t.solves];
-    scores[j] = t.score;
-    t
+    let trial = evaluate_aicc(problem, b);
+    tried[j] = Some(Tried { key, trial });
+    trial
 }

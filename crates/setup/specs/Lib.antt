@@ -2,3 +2,4 @@ pub mod Bandwidth
 pub mod Options
 pub mod Data
 pub mod Shape
+pub mod Problem

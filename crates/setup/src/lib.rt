@@ -7,8 +7,12 @@ ghost use Rattle.setup.specs.Options.{unguarded, default_options, judged_by};
 
 use kernel::GwrKernel;
 
+mod problem;
+
+pub use problem::{Columns, Problem};
+
 // 000's bandwidth: a distance, or a number of neighbours.
-#[derive(Clone, Copy)]
+#[derive(Clone, Copy, PartialEq, Debug)]
 pub enum GwrBandwidth {
     Fixed(f64),
     AdaptiveKnn(usize),
@@ -28,14 +32,14 @@ impl GwrBandwidth {
 }
 
 // How AICc is judged where more is spent than the degrees of freedom: worked as it falls, as in 000, or plus infinity.
-#[derive(Clone, Copy)]
+#[derive(Clone, Copy, PartialEq, Eq, Debug)]
 pub enum GwrCriterion {
     Unguarded,
     Guarded,
 }
 
 // 000's options, and the criterion.
-#[derive(Clone, Copy)]
+#[derive(Clone, Copy, PartialEq, Debug)]
 pub struct GwrOptions {
     pub kernel: GwrKernel,
     pub bandwidth: GwrBandwidth,
@@ -56,27 +60,22 @@ impl GwrOptions {
         }
     }
 
-    // Bisquare, count 0, no search.
-    pub fn default_options() -> Self
-        ensures { result ≡ default_options }
-    {
-        let kernel = GwrKernel::Bisquare;
-        let bandwidth = GwrBandwidth::AdaptiveKnn(0);
-        GwrOptions::unguarded(kernel, bandwidth, false)
-    }
-
     // The same judged by another criterion.
     pub fn judged_by(self, criterion: GwrCriterion) -> Self
         ensures { result ≡ judged_by criterion self }
     {
-        let kernel = self.kernel;
-        let bandwidth = self.bandwidth;
-        GwrOptions {
-            kernel,
-            bandwidth,
-            optimize_bandwidth: self.optimize_bandwidth,
-            criterion,
-        }
+        GwrOptions { criterion, ..self }
+    }
+}
+
+// Bisquare, count 0, no search.
+impl Default for GwrOptions {
+    ghost is_default = { λ o. o ≡ default_options };
+
+    fn default() -> Self {
+        let kernel = GwrKernel::Bisquare;
+        let bandwidth = GwrBandwidth::AdaptiveKnn(0);
+        GwrOptions::unguarded(kernel, bandwidth, false)
     }
 }
 

@@ -2,45 +2,14 @@
 #![tactic(auto)]
 
 ghost use Rattle.std.specs.Prelude.{◌≡◌, length};
-ghost use Rattle.setup.specs.Data.{trusted_data};
 ghost use Rattle.setup.specs.Shape.{Sized};
-ghost use Rattle.starting.specs.Begin.{blank_job, start_job, begin_of};
+ghost use Rattle.starting.specs.Begin.{start_job, begin_of};
 
 use golden::Bracket;
-use plan::{Acceptance, Plan};
+use plan::Plan;
 use refusal::Refusal;
-use setup::{GwrBandwidth, GwrOptions, Setup};
+use setup::{Columns, GwrOptions, Setup};
 use stepping::{Job, Stage};
-
-// What beginning answers; a refused one makes no job.
-#[derive(Clone, Copy)]
-pub enum Beginning {
-    Ready,
-    Refused(Refusal),
-}
-
-#[derive(Clone, Copy)]
-pub struct Begun {
-    pub answer: Beginning,
-    pub job: Job,
-}
-
-// A record that every turn refuses.
-fn blank(options: GwrOptions) -> Job
-    ensures { result ≡ blank_job options }
-{
-    let setup = Setup {
-        options,
-        n: 0,
-        p: 0,
-    };
-    Job::fresh(
-        setup,
-        Stage::Final,
-        Bracket::none(),
-        GwrBandwidth::AdaptiveKnn(0),
-    )
-}
 
 // The final fit at the bandwidth settled, or the first trial of a search.
 fn start(u: Setup, plan: Plan) -> Job
@@ -57,34 +26,16 @@ fn start(u: Setup, plan: Plan) -> Job
     }
 }
 
-// The input checks, and a job set up for its first trial or its final fit.
+// The input checks, and a job set up for its first trial or its final fit; a refused beginning makes none.
 pub fn begin(
-    coords: &[f64],
-    x: &[f64],
-    y: &[f64],
-    trust: &[f64],
+    columns: &Columns<'_>,
     p: usize,
     options: GwrOptions,
     out: &[f64],
-) -> Begun
-    ensures { result ≡ begin_of (trusted_data coords.now x.now y.now trust.now) p options (length out.now) }
+) -> Result<Job, Refusal>
+    ensures { result ≡ begin_of columns.now p options (length out.now) }
 {
-    let accepted = plan::accept(coords, x, y, trust, p, options, out.len());
-    match accepted {
-        Acceptance::Refused(r) => {
-            let job = blank(options);
-            Begun {
-                answer: Beginning::Refused(r),
-                job,
-            }
-        }
-        Acceptance::Planned(plan) => {
-            let n = coords.len() / 2;
-            let job = start(Setup { options, n, p }, plan);
-            Begun {
-                answer: Beginning::Ready,
-                job,
-            }
-        }
-    }
+    let plan = plan::accept(columns, p, options, out.len())?;
+    let n = columns.coords.len() / 2;
+    Ok(start(Setup { options, n, p }, plan))
 }

@@ -1,4 +1,7 @@
 -- A step of a sound record leaves a sound one, ended or not, with the same setup, and the output as long as it was.
+use Rattle.std.specs.Prelude.{Result, Ok, Err, IfOk}
+use Rattle.refusal.specs.declared.Refusal.{Refusal}
+use Rattle.local.specs.declared.Solved.{Solved}
 use mathlib.Core.Path.{◌≡◌, refl, subst, subst⁻¹, ◌∙◌}
 use mathlib.Core.Bool.{Bool, true, false, ◌||◌, true≢false}
 use mathlib.Core.List.{List}
@@ -17,11 +20,8 @@ use Rattle.setup.specs.declared.Setup.{Setup}
 use Rattle.setup.specs.Bandwidth.{Usable}
 use Rattle.setup.specs.Data.{Data}
 use Rattle.setup.specs.Shape.{Sized}
-use Rattle.local.specs.declared.Outcome.{Outcome}
-use Rattle.local.specs.declared.Outcome.TheVariants as outcome
 use Rattle.row.proofs.Rows.{put_long}
 use Rattle.local.proofs.Lengths.{beta_eight}
-use Rattle.criterion.specs.declared.Criterion.{Criterion}
 use Rattle.criterion.specs.Aicc.{score_of}
 use Rattle.golden.specs.declared.Bracket.{Bracket}
 use Rattle.golden.specs.Golden.{aim_of, narrow_of, tight_of}
@@ -82,7 +82,7 @@ or_false : (a b : Bool) → (a || b) ≡ false → a ≡ false
 or_false true b h = h
 or_false false b h = refl
 
-close_at_lem : (j : Job) (x : Stage) (c : Criterion) → Sound 1 j → TrialsAt x j.trials.made → is_ended x ≡ false → Held (close_at x j c)
+close_at_lem : (j : Job) (x : Stage) (c : Result Float Refusal) → Sound 1 j → TrialsAt x j.trials.made → is_ended x ≡ false → Held (close_at x j c)
 close_at_lem j First c s h live = next_sound j Second _ _ s (omega (arith, h))
 close_at_lem j Second c s h live = next_sound j Round _ _ s (omega (arith, h), omega (arith, h))
 close_at_lem j Round c s h live =
@@ -98,7 +98,7 @@ close_at_lem j Round c s h live =
 close_at_lem j Final c s h live = record { sized = s.sized; within = s.within; kind = s.kind; solves = s.solves; trials = h }
 close_at_lem j (Ended x) c s h live = absurd (true≢false live)
 
-close_held : (j : Job) (c : Criterion) → Sound 1 j → is_ended j.stage ≡ false → Held (close_job j c)
+close_held : (j : Job) (c : Result Float Refusal) → Sound 1 j → is_ended j.stage ≡ false → Held (close_job j c)
 unfolding close_job
 close_held j c s live = close_at_lem j j.stage c s s.trials live
 
@@ -120,18 +120,18 @@ pass_held j w s e live =
     (λ f. close_held (solved_job j w) _ k live)
     (λ f. sound_held (solved_job j (next_location w)) (moved_sound j w k (eqb-false _ _ f)))
 
-outcome_held : (j : Job) (o : Outcome) → Sound 0 j → is_ended j.stage ≡ false → Held (after_outcome j o)
-outcome_held j (outcome.Found v) s live = pass_held j (add_values j.sweep v) s refl live
-outcome_held j (outcome.Refused r) s live = close_held (solved_job j j.sweep) _ (solved_sound j.sweep s refl) live
+outcome_held : (j : Job) (o : Result Solved Refusal) → Sound 0 j → is_ended j.stage ≡ false → Held (after_outcome j o)
+outcome_held j (Ok v) s live = pass_held j (add_values j.sweep v.values) s refl live
+outcome_held j (Err r) s live = close_held (solved_job j j.sweep) _ (solved_sound j.sweep s refl) live
 
 -- a fit record stays fit
 pub step_held : (d : Data) (j : Job) → Held j → is_ended j.stage ≡ false → Held (step_job d j)
 unfolding step_job
-step_held d j h live = outcome_held j (solve_of d j).outcome (held_live j live h) live
+step_held d j h live = outcome_held j (solve_of d j) (held_live j live h) live
 
 -- ---- the setup
 
-close_setup : (j : Job) (x : Stage) (c : Criterion) → (close_at x j c).setup ≡ j.setup
+close_setup : (j : Job) (x : Stage) (c : Result Float Refusal) → (close_at x j c).setup ≡ j.setup
 close_setup j First c = refl
 close_setup j Second c = refl
 close_setup j Round c = let g = narrow_of j.trials.bracket (score_of c) in
@@ -139,16 +139,16 @@ close_setup j Round c = let g = narrow_of j.trials.bracket (score_of c) in
 close_setup j Final c = refl
 close_setup j (Ended x) c = refl
 
-outcome_setup : (j : Job) (o : Outcome) → (after_outcome j o).setup ≡ j.setup
+outcome_setup : (j : Job) (o : Result Solved Refusal) → (after_outcome j o).setup ≡ j.setup
 unfolding pass_job close_job
-outcome_setup j (outcome.Found v) =
-    let w = add_values j.sweep v in
+outcome_setup j (Ok v) =
+    let w = add_values j.sweep v.values in
     by_test (λ (k : Job). k.setup ≡ j.setup) (eqb (w.location + 1) j.setup.n) _ _ (λ e. close_setup (solved_job j w) j.stage _) (λ e. refl)
-outcome_setup j (outcome.Refused r) = close_setup (solved_job j j.sweep) j.stage _
+outcome_setup j (Err r) = close_setup (solved_job j j.sweep) j.stage _
 
 pub step_setup : (d : Data) (j : Job) → (step_job d j).setup ≡ j.setup
 unfolding step_job
-step_setup d j = outcome_setup j (solve_of d j).outcome
+step_setup d j = outcome_setup j (solve_of d j)
 
 -- ---- the output
 
@@ -163,12 +163,12 @@ step_long d j out z within room = go (is_final j.stage)
     room' : u.n * (u.p + 1 + 3) ≤ length out
     room' = let e : u.p + 1 + 3 ≡ u.p + 4 = omega arith in rw e room
 
-    found : (o : Outcome) → length (row_found o u j.sweep.location (solve_of d j).beta out) ≡ length out
-    found (outcome.Found v) = put_long out u.n (u.p + 1) j.sweep.location (solve_of d j).beta v room' within (omega (arith, z.narrow)) (beta_eight _ _ _ _)
-    found (outcome.Refused r) = refl
+    found : (o : Result Solved Refusal) → IfOk o (λ s. length s.beta ≡ 8) → length (row_found o u j.sweep.location out) ≡ length out
+    found (Ok v) e = put_long out u.n (u.p + 1) j.sweep.location v.beta v.values room' within (omega (arith, z.narrow)) e
+    found (Err r) e = refl
 
     go : (b : Bool) → length (row_after b u j.sweep.location (solve_of d j) out) ≡ length out
-    go true = found (solve_of d j).outcome
+    go true = found (solve_of d j) (beta_eight _ _ _ _)
     go false = refl
 
 -- ---- every state on the way

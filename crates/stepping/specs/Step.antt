@@ -1,14 +1,11 @@
 -- One step of a job: 01's 'Search and turns'. Definitions only.
-use Rattle.std.specs.Prelude.{ℕ, ◌+◌, Bool, true, false, cond, ◌||◌, List, eqb, Float}
+use Rattle.refusal.specs.declared.Refusal.{Refusal}
+use Rattle.std.specs.Prelude.{ℕ, ◌+◌, Bool, true, false, cond, ◌||◌, List, eqb, Float, Result, Ok, Err}
 use Rattle.setup.specs.declared.GwrBandwidth.{GwrBandwidth}
 use Rattle.setup.specs.declared.Setup.{Setup}
 use Rattle.setup.specs.Data.{Data}
-use Rattle.local.specs.declared.Outcome.{Outcome}
-use Rattle.local.specs.declared.Outcome.TheVariants as outcome
 use Rattle.local.specs.declared.Solved.{Solved}
 use Rattle.local.specs.Solve.{solve_location}
-use Rattle.criterion.specs.declared.Criterion.{Criterion}
-use Rattle.criterion.specs.declared.Criterion.TheVariants as criterion
 use Rattle.criterion.specs.Aicc.{corrected_aic, score_of}
 use Rattle.golden.specs.declared.Bracket.{Bracket}
 use Rattle.golden.specs.Golden.{first_of, second_of, aim_of, narrow_of, tight_of}
@@ -21,7 +18,7 @@ use Rattle.stepping.specs.declared.Trials.{Trials}
 use Rattle.stepping.specs.declared.Job.{Job}
 
 -- one thing in a search, one in the final fit, and once ended what its ending says
-abbrev pub by_stage : {A : Type 0} → A → A → (Criterion → A) → Stage → A
+abbrev pub by_stage : {A : Type 0} → A → A → (Result Float Refusal → A) → Stage → A
 by_stage search final ended First = search
 by_stage search final ended Second = search
 by_stage search final ended Round = search
@@ -30,11 +27,11 @@ by_stage search final ended (Ended c) = ended c
 
 -- whether a job at this stage has ended
 abbrev pub is_ended : Stage → Bool
-is_ended x = by_stage false false (λ (c : Criterion). true) x
+is_ended x = by_stage false false (λ (c : Result Float Refusal). true) x
 
 -- whether its solves write rows
 abbrev pub is_final : Stage → Bool
-is_final x = by_stage false true (λ (c : Criterion). false) x
+is_final x = by_stage false true (λ (c : Result Float Refusal). false) x
 
 -- the solve that a job has made of its location: 01's plus 1 once ended
 abbrev pub ended_solve : Stage → ℕ
@@ -70,19 +67,19 @@ close_round j s =
     cond (is_last_round j.trials.made g) (next_sweep j Final g g.best) (next_sweep j Round g (aim_of g))
 
 -- 01: a job that ends keeps the location of its last solve
-abbrev pub end_job : Job → Criterion → Job
+abbrev pub end_job : Job → Result Float Refusal → Job
 end_job j c =
     record { setup = j.setup; stage = Ended c; trials = j.trials; bandwidth = j.bandwidth; sweep = j.sweep; solves = j.solves }
 
 -- 01: a trial has its score, and the final fit ends with its AICc or a refusal
-abbrev pub close_at : Stage → Job → Criterion → Job
+abbrev pub close_at : Stage → Job → Result Float Refusal → Job
 close_at First j c = close_first j (score_of c)
 close_at Second j c = close_second j (score_of c)
 close_at Round j c = close_round j (score_of c)
 close_at Final j c = end_job j c
 close_at (Ended x) j c = j
 
-unfoldable pub close_job : Job → Criterion → Job
+unfoldable pub close_job : Job → Result Float Refusal → Job
 close_job j c = close_at j.stage j c
 
 -- ---- one solve
@@ -99,16 +96,16 @@ pass_job j w =
     (solved_job j (next_location w))
 
 -- 01: success: trace and squares are added. Failure: in a trial the score is +infinity, and the final fit ends with the refusal
-abbrev pub after_outcome : Job → Outcome → Job
-after_outcome j (outcome.Found v) = pass_job j (add_values j.sweep v)
-after_outcome j (outcome.Refused r) = close_job (solved_job j j.sweep) (criterion.Refused r)
+abbrev pub after_outcome : Job → Result Solved Refusal → Job
+after_outcome j (Ok v) = pass_job j (add_values j.sweep v.values)
+after_outcome j (Err r) = close_job (solved_job j j.sweep) (Err r)
 
 -- 01: the current location solved
-abbrev pub solve_of : Data → Job → Solved
+abbrev pub solve_of : Data → Job → Result Solved Refusal
 solve_of d j = solve_location j.setup d j.bandwidth j.sweep.location
 
 unfoldable pub step_job : Data → Job → Job
-step_job d j = after_outcome j (solve_of d j).outcome
+step_job d j = after_outcome j (solve_of d j)
 
 -- 01: the final fit writes that row
 unfoldable pub step_out : Data → Job → List Float → List Float

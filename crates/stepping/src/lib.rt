@@ -2,15 +2,13 @@
 #![tactic(auto)]
 
 ghost use Rattle.std.specs.Prelude.{◌≡◌, ◌+◌, ◌*◌, ◌≤◌, length};
-ghost use Rattle.setup.specs.Data.{trusted_data};
-ghost use Rattle.setup.specs.Shape.{Shaped};
 ghost use Rattle.stepping.specs.Step.{is_ended, is_final, ended_solve, fresh_job, next_sweep, close_first, close_second, close_round, is_last_round, end_job, close_job, solved_job, pass_job, after_outcome, step_of};
 ghost use Rattle.stepping.specs.Sound.{Sound};
 
-use criterion::Criterion;
 use golden::Bracket;
-use local::Outcome;
-use setup::{GwrBandwidth, Setup};
+use local::Solved;
+use refusal::Refusal;
+use setup::{GwrBandwidth, Problem, Setup};
 use sweep::Sweep;
 
 // What a job is at: its first trial, its second, a round's, its final fit; or it has ended.
@@ -20,7 +18,7 @@ pub enum Stage {
     Second,
     Round,
     Final,
-    Ended(Criterion),
+    Ended(Result<f64, Refusal>),
 }
 
 impl Stage {
@@ -28,39 +26,21 @@ impl Stage {
     pub fn is_ended(self) -> bool
         ensures { result ≡ is_ended self }
     {
-        match self {
-            Stage::First => false,
-            Stage::Second => false,
-            Stage::Round => false,
-            Stage::Final => false,
-            Stage::Ended(_) => true,
-        }
+        matches!(self, Stage::Ended(_))
     }
 
     // Whether its solves write rows.
     fn is_final(self) -> bool
         ensures { result ≡ is_final self }
     {
-        match self {
-            Stage::First => false,
-            Stage::Second => false,
-            Stage::Round => false,
-            Stage::Final => true,
-            Stage::Ended(_) => false,
-        }
+        matches!(self, Stage::Final)
     }
 
     // The solve that a job has made of its location: one once it has ended.
     pub fn ended_solve(self) -> u64
         ensures { result ≡ ended_solve self }
     {
-        match self {
-            Stage::First => 0,
-            Stage::Second => 0,
-            Stage::Round => 0,
-            Stage::Final => 0,
-            Stage::Ended(_) => 1,
-        }
+        if self.is_ended() { 1 } else { 0 }
     }
 }
 
@@ -87,14 +67,12 @@ impl Job {
     pub fn fresh(setup: Setup, stage: Stage, bracket: Bracket, bandwidth: GwrBandwidth) -> Self
         ensures { result ≡ fresh_job setup stage bracket bandwidth }
     {
-        let trials = Trials { bracket, made: 0 };
-        let sweep = Sweep::new();
         Job {
             setup,
             stage,
-            trials,
+            trials: Trials { bracket, made: 0 },
             bandwidth,
-            sweep,
+            sweep: Sweep::new(),
             solves: 0,
         }
     }
@@ -104,18 +82,13 @@ impl Job {
         requires { Sound 1 self }
         ensures { result ≡ next_sweep self stage bracket point }
     {
-        let setup = self.setup;
         let made = self.trials.made + 1;
-        let trials = Trials { bracket, made };
-        let bandwidth = bounds::bandwidth_at(setup, point);
-        let fresh = Sweep::new();
         Job {
-            setup,
             stage,
-            trials,
-            bandwidth,
-            sweep: fresh, // no sum of a trial outlives it, failed or not
-            solves: self.solves,
+            trials: Trials { bracket, made },
+            bandwidth: bounds::bandwidth_at(self.setup, point),
+            sweep: Sweep::new(), // no sum of a trial outlives it, failed or not
+            ..self
         }
     }
 
@@ -153,33 +126,25 @@ impl Job {
     }
 
     // The job ends; it keeps the location of its last solve.
-    fn end(self, ending: Criterion) -> Self
+    fn end(self, ending: Result<f64, Refusal>) -> Self
         ensures { result ≡ end_job self ending }
     {
-        let setup = self.setup;
-        let trials = self.trials;
-        let bandwidth = self.bandwidth;
-        let sweep = self.sweep;
         Job {
-            setup,
             stage: Stage::Ended(ending),
-            trials,
-            bandwidth,
-            sweep,
-            solves: self.solves,
+            ..self
         }
     }
 
     // A sweep is over.
-    fn close(self, ending: Criterion) -> Self
+    #[tactic(auto, unfolding(crate::specs::Step::close_job))]
+    fn close(self, ending: Result<f64, Refusal>) -> Self
         requires { Sound 1 self }
         ensures { result ≡ close_job self ending }
     {
-        let stage = self.stage;
-        match stage {
-            Stage::First => self.close_first(ending.score()),
-            Stage::Second => self.close_second(ending.score()),
-            Stage::Round => self.close_round(ending.score()),
+        match self.stage {
+            Stage::First => self.close_first(criterion::score_of(ending)),
+            Stage::Second => self.close_second(criterion::score_of(ending)),
+            Stage::Round => self.close_round(criterion::score_of(ending)),
             Stage::Final => self.end(ending),
             Stage::Ended(_) => self,
         }
@@ -196,6 +161,7 @@ impl Job {
     }
 
     // The location solved: on to the next one, or the sweep is over.
+    #[tactic(auto, unfolding(crate::specs::Step::pass_job))]
     fn pass(self, sweep: Sweep) -> Self
         requires sound { Sound 0 self }
         requires same_location { sweep.location ≡ self.sweep.location }
@@ -203,41 +169,36 @@ impl Job {
     {
         let setup = self.setup;
         if sweep.location + 1 == setup.n {
-            let over = self.solved(sweep);
-            return over.close(criterion::corrected_aic(setup, sweep.squares, sweep.trace));
+            let ending = criterion::corrected_aic(setup, sweep.squares, sweep.trace);
+            return self.solved(sweep).close(ending);
         }
         self.solved(sweep.next())
     }
 
     // The job after a solve of its location.
-    fn after_outcome(self, outcome: Outcome) -> Self
+    fn after_outcome(self, outcome: Result<Solved, Refusal>) -> Self
         requires { Sound 0 self }
         ensures { result ≡ after_outcome self outcome }
     {
         let sweep = self.sweep;
         match outcome {
-            Outcome::Found(v) => self.pass(sweep.add(v)),
-            Outcome::Refused(r) => {
-                let over = self.solved(sweep);
-                over.close(Criterion::Refused(r))
-            }
+            Ok(solved) => self.pass(sweep.add(solved.values)),
+            Err(r) => self.solved(sweep).close(Err(r)),
         }
     }
 
     // One local solve.
-    pub fn step(self, coords: &[f64], x: &[f64], y: &[f64], trust: &[f64], out: &mut [f64]) -> Self
+    #[tactic(auto, unfolding(crate::specs::Step::step_of, crate::specs::Step::step_job, crate::specs::Step::step_out))]
+    pub fn step(self, problem: &Problem<'_>, out: &mut [f64]) -> Self
         requires sound { Sound 0 self }
-        requires shaped { Shaped self.setup (trusted_data coords.now x.now y.now trust.now) }
+        requires own { problem.now.setup ≡ self.setup }
         requires room { self.setup.n * (self.setup.p + 4) ≤ length out.old }
-        ensures { (result, out.new) ≡ step_of (trusted_data coords.now x.now y.now trust.now) (self, out.old) }
+        ensures { (result, out.new) ≡ step_of problem.now.columns (self, out.old) }
     {
         let u = self.setup;
-        let stage = self.stage;
-        let bandwidth = self.bandwidth;
         let i = self.sweep.location;
-        let solved = local::solve_location(coords, x, y, trust, u, bandwidth, i);
-        let outcome = solved.outcome;
-        sweep::write_row(out, stage.is_final(), u, i, solved);
+        let outcome = local::solve_location(problem, self.bandwidth, i);
+        sweep::write_row(out, self.stage.is_final(), u, i, outcome);
         self.after_outcome(outcome)
     }
 }
@@ -246,5 +207,5 @@ impl Job {
 fn is_last_round(made: usize, g: Bracket) -> bool
     ensures { result ≡ is_last_round made g }
 {
-    if made == 101 { true } else { g.is_tight() }
+    made == 101 || g.is_tight()
 }

@@ -1,5 +1,6 @@
 -- A sweep: every location solved at one bandwidth, in order, up to the first refusal. 000's `fit_all_locations`. Definitions only.
-use Rattle.std.specs.Prelude.{ℕ, ◌+◌, ◌*◌, ◌≤◌, Bool, true, false, List, [], Float}
+use Rattle.refusal.specs.declared.Refusal.{Refusal}
+use Rattle.std.specs.Prelude.{ℕ, ◌+◌, ◌*◌, ◌≤◌, Bool, true, false, List, [], Float, Result, Ok, Err, Option, Some, None}
 use Rattle.std.specs.Float.{binary64}
 use Rattle.std.specs.Float.Ieee.{add, mul}
 use Rattle.real.specs.Fold.{range}
@@ -8,16 +9,10 @@ use Rattle.setup.specs.declared.GwrBandwidth.{GwrBandwidth}
 use Rattle.setup.specs.declared.Setup.{Setup}
 use Rattle.setup.specs.Data.{Data}
 use Rattle.evaluate.specs.declared.Values.{Values}
-use Rattle.local.specs.declared.Outcome.{Outcome}
-use Rattle.local.specs.declared.Outcome.TheVariants as outcome
 use Rattle.local.specs.declared.Solved.{Solved}
 use Rattle.local.specs.Solve.{solve_location}
 use Rattle.row.specs.Row.{put_row}
-use Rattle.criterion.specs.declared.Criterion.{Criterion}
-use Rattle.criterion.specs.declared.Criterion.TheVariants as criterion
 use Rattle.criterion.specs.Aicc.{corrected_aic}
-use Rattle.sweep.specs.declared.Course.{Course}
-use Rattle.sweep.specs.declared.Course.TheVariants.{Going, Stopped}
 use Rattle.sweep.specs.declared.Sweep.{Sweep}
 use Rattle.sweep.specs.declared.Swept.{Swept}
 
@@ -38,53 +33,53 @@ abbrev pub next_location : Sweep → Sweep
 next_location s = record { location = s.location + 1; trace = s.trace; squares = s.squares }
 
 -- 01: a sweep stops at the first refusal
-abbrev pub after_solve : Sweep → Outcome → Swept
-after_solve s (outcome.Found v) = record { course = Going; sweep = next_location (add_values s v) }
-after_solve s (outcome.Refused r) = record { course = Stopped r; sweep = s }
+abbrev pub after_solve : Sweep → Result Solved Refusal → Swept
+after_solve s (Ok v) = record { stopped = None; sweep = next_location (add_values s v.values) }
+after_solve s (Err r) = record { stopped = Some r; sweep = s }
 
 -- 01: only the final fit writes, row by row; a location that could not be solved has no row
-abbrev pub row_found : Outcome → Setup → ℕ → List Float → List Float → List Float
-row_found (outcome.Found v) u i beta out = put_row out (u.p + 1) i beta v
-row_found (outcome.Refused r) u i beta out = out
+abbrev pub row_found : Result Solved Refusal → Setup → ℕ → List Float → List Float
+row_found (Ok v) u i out = put_row out (u.p + 1) i v.beta v.values
+row_found (Err r) u i out = out
 
 -- the output after location i, with rows or without
-abbrev pub row_after : Bool → Setup → ℕ → Solved → List Float → List Float
-row_after true u i v out = row_found v.outcome u i v.beta out
+abbrev pub row_after : Bool → Setup → ℕ → Result Solved Refusal → List Float → List Float
+row_after true u i v out = row_found v u i out
 row_after false u i v out = out
 
 -- sweep and output after location i, unless the sweep has stopped
-abbrev pub visit_at : Course → Bool → Setup → Data → GwrBandwidth → ℕ → Swept × List Float → Swept × List Float
-visit_at Going rows u d b i s =
+abbrev pub visit_at : Option Refusal → Bool → Setup → Data → GwrBandwidth → ℕ → Swept × List Float → Swept × List Float
+visit_at None rows u d b i s =
     let v = solve_location u d b i in
-    (after_solve s.0.sweep v.outcome, row_after rows u i v s.1)
-visit_at (Stopped r) rows u d b i s = s
+    (after_solve s.0.sweep v, row_after rows u i v s.1)
+visit_at (Some r) rows u d b i s = s
 
 unfoldable pub visit : Bool → Setup → Data → GwrBandwidth → ℕ → Swept × List Float → Swept × List Float
-visit rows u d b i s = visit_at s.0.course rows u d b i s
+visit rows u d b i s = visit_at s.0.stopped rows u d b i s
 
 -- a whole sweep, with rows or without
 unfoldable pub fit_all_locations : Bool → Setup → Data → GwrBandwidth → List Float → Swept × List Float
-fit_all_locations rows u d b out = range (visit rows u d b) 0 u.n (record { course = Going; sweep = new_sweep }, out)
+fit_all_locations rows u d b out = range (visit rows u d b) 0 u.n (record { stopped = None; sweep = new_sweep }, out)
 
 -- a trial's, which writes no row
 abbrev pub sweep_of : Setup → Data → GwrBandwidth → Swept
 sweep_of u d b = (fit_all_locations false u d b []).0
 
 -- 01: the failing solve counts
-abbrev pub solves_after : Course → ℕ → ℕ
-solves_after Going location = location
-solves_after (Stopped r) location = location + 1
+abbrev pub solves_after : Option Refusal → ℕ → ℕ
+solves_after None location = location
+solves_after (Some r) location = location + 1
 
 abbrev pub solves_of : Swept → ℕ
-solves_of s = solves_after s.course s.sweep.location
+solves_of s = solves_after s.stopped s.sweep.location
 
 -- 01: if no refusal comes, the sweep's AICc or refusal 17 follows
-abbrev pub ending_at : Course → Setup → Sweep → Criterion
-ending_at Going u s = corrected_aic u s.squares s.trace
-ending_at (Stopped r) u s = criterion.Refused r
+abbrev pub ending_at : Option Refusal → Setup → Sweep → Result Float Refusal
+ending_at None u s = corrected_aic u s.squares s.trace
+ending_at (Some r) u s = Err r
 
-abbrev pub ending_of : Setup → Swept → Criterion
-ending_of u s = ending_at s.course u s.sweep
+abbrev pub ending_of : Setup → Swept → Result Float Refusal
+ending_of u s = ending_at s.stopped u s.sweep
 
 -- ---- what the code's parts need
 

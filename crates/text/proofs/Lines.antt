@@ -1,12 +1,13 @@
 -- Text that is written in steps.
-use mathlib.Core.Path.{refl, sym, ap, ◌∙◌}
+use mathlib.Core.Path.{◌≡◌, refl, sym, ap, ◌∙◌}
 use mathlib.Core.List.{List, [], ◌∷◌, ◌++◌}
-use Prim.Native.Nat.{ℕ, ◌+◌, ◌≤◌, ◌<◌}
+use Prim.Native.Nat.{ℕ, ◌+◌, ◌-◌, ◌≤◌, ◌<◌}
 use native.Mathlib.Nat.{add-zero}
 use native.Mathlib.Omega.{arith}
+use lib.Seq.{drop-drop}
 use lib.ListN.{length, take, drop, set, length-append, length-set, take-append-drop}
 use Rattle.wire.specs.Wire.{placed}
-use Rattle.wire.proofs.Placed.{placed_more, placed_one}
+use Rattle.wire.proofs.Placed.{placed_more, placed_one, length_placed}
 use Rattle.text.specs.Listing.{WrittenText}
 
 -- nothing yet
@@ -28,6 +29,14 @@ and_then {d₀} {d₁} {d₂} {at} {e₁} {e₂} {line} {more} w v h =
       long = v.long ∙ w.long;
     }
 
--- and its last byte
-pub and_byte : {d₀ d₁ : List ℕ} {at e : ℕ} {line : List ℕ} (b : ℕ) → WrittenText d₀ at line d₁ e → e < length d₀ → WrittenText d₀ at (line ++ (b ∷ [])) (set d₁ e b) (e + 1)
-and_byte b w h = and_then w (byte b (omega arith)) (omega arith)
+-- a word copied into its part
+pub word_part : (d : List ℕ) (at : ℕ) (word part : List ℕ) → part ≡ word → at + length word ≤ length d → WrittenText d at word (take at d ++ (part ++ drop (at + length word - at) (drop at d))) (at + length word)
+unfolding placed
+word_part d at word part is h =
+    let behind : at + (at + length word - at) ≡ at + length word = omega arith in
+    let whole : take at d ++ (part ++ drop (at + length word - at) (drop at d)) ≡ placed d at word = rw (is, drop-drop (at + length word - at) at d, behind) in
+    record { is = whole; stop = refl; long = ap length whole ∙ length_placed d at word h }
+
+-- of the bytes lent, once they are back, and of the number as it is
+pub text_is : {d₀ d d' : List ℕ} {at e : ℕ} {line : List ℕ} → d' ≡ d → WrittenText d₀ at line d e → WrittenText d₀ at line d' e
+text_is back w = rw back w

@@ -5,17 +5,15 @@
 ghost use Rattle.std.specs.Prelude.{◌≤◌, ◌<◌};
 
 use criterion::Summary;
-use gwr::FitAnswer;
+use gwr::Fit;
 use kernel::GwrKernel;
-use setup::{GwrBandwidth, GwrOptions};
+use refusal::Refusal;
+use setup::{Columns, GwrBandwidth, GwrOptions};
 use std::io;
-use sweep::Finish;
 
 // A space and the bits of a real.
 fn print_real(rt: &impl Print, v: f64) -> io::Result<()> {
-    let mut text = [0u8; 17];
-    text::put_bits(&mut text, 0, wire::bits_of(v));
-    rt.write_all(&text)
+    print!(rt; " {:016X}", wire::bits_of(v))
 }
 
 // The line of a fit: no refusal, bandwidth, AICc, solves.
@@ -26,34 +24,16 @@ fn print_summary(rt: &impl Print, s: Summary) -> io::Result<()> {
     println!(rt; " {}", s.solves)
 }
 
-// What stands before number k of rows of this width: the row's own number where it begins one.
-fn print_start(rt: &impl Print, k: usize, width: usize) -> io::Result<()>
-    requires { 0 < width }
-{
-    if k % width == 0 {
-        print!(rt; "row {}", k / width)?;
-    }
-    Ok(())
-}
-
-// What stands behind the first k numbers: the end of a line where they fill their rows.
-fn print_end(rt: &impl Print, k: usize, width: usize) -> io::Result<()>
-    requires { 0 < width }
-{
-    if k % width == 0 {
-        println!(rt)?;
-    }
-    Ok(())
-}
-
 // The lines of whole rows.
 fn print_rows(rt: &impl Print, rows: &[f64], width: usize) -> io::Result<()>
     requires { 0 < width }
 {
-    for k in 0..rows.len() {
-        print_start(rt, k, width)?;
-        print_real(rt, rows[k])?;
-        print_end(rt, k + 1, width)?;
+    for (i, row) in rows.chunks_exact(width).enumerate() {
+        print!(rt; "row {i}")?;
+        for v in row {
+            print_real(rt, *v)?;
+        }
+        println!(rt)?;
     }
     Ok(())
 }
@@ -63,29 +43,31 @@ fn print_refused(rt: &impl Print, number: u32) -> io::Result<()> {
 }
 
 // What a fit answered, with `rows` as its output.
-fn print_answer(rt: &impl Print, answer: FitAnswer, rows: &[f64], width: usize) -> io::Result<()>
+fn print_answer(
+    rt: &impl Print,
+    fit: Result<Fit, Refusal>,
+    rows: &[f64],
+    width: usize,
+) -> io::Result<()>
     requires { 0 < width }
 {
-    match answer {
-        FitAnswer::Rejected(r) => print_refused(rt, r.number()),
-        FitAnswer::Done(finish) => match finish {
-            Finish::Failed(r, _) => print_refused(rt, r.number()),
-            Finish::Fitted(s) => {
-                print_summary(rt, s)?;
+    match fit {
+        Err(r) => print_refused(rt, r.number()),
+        Ok(fit) => match fit.finish.refusal {
+            Some(r) => print_refused(rt, r.number()),
+            None => {
+                print_summary(rt, fit.finish.summary)?;
                 print_rows(rt, rows, width)
             }
         },
     }
 }
 
-// A job's name and its fit; `out` has just the room that the rows need, or less.
+// A job's name and its fit, with the parameters of `gwr_fit`; `out` has just the room that the rows need, or less.
 fn show(
     rt: &impl Print,
     name: &str,
-    coords: &[f64],
-    x: &[f64],
-    y: &[f64],
-    trust: &[f64],
+    columns: &Columns<'_>,
     p: usize,
     options: GwrOptions,
     out: &mut [f64],
@@ -93,9 +75,8 @@ fn show(
     requires { p ≤ 7 }
 {
     println!(rt; "{name}:")?;
-    let fit = gwr::gwr_fit(coords, x, y, trust, p, options, &mut *out);
-    let answer = fit.answer;
-    print_answer(rt, answer, &*out, p + 4)
+    let fit = gwr::gwr_fit(columns, p, options, &mut *out);
+    print_answer(rt, fit, &*out, p + 4)
 }
 
 fn by_distance(kernel: GwrKernel, d: f64) -> GwrOptions {
@@ -108,67 +89,69 @@ fn by_count(kernel: GwrKernel, k: usize, searched: bool) -> GwrOptions {
 
 // Three at one place. The leverage of the first is infinite before its own weight is multiplied in.
 fn three(rt: &impl Print, name: &str, first: f64) -> io::Result<()> {
-    let coords = [0.0; 6];
-    let x = [1e200, 0.0, 1.0];
-    let y = [0.0; 3];
-    let trust = [first, 1.0, 1.0];
+    let columns = Columns {
+        coords: &[0.0; 6],
+        predictors: &[1e200, 0.0, 1.0],
+        responses: &[0.0; 3],
+        trusts: &[first, 1.0, 1.0],
+    };
     let options = by_distance(GwrKernel::Gaussian, 1.0);
     let mut out = [0.0; 15];
-    show(rt, name, &coords, &x, &y, &trust, 1, options, &mut out)
+    show(rt, name, &columns, 1, options, &mut out)
 }
 
 // Two at one place, the fewest of which that is so. Only the second weighs; that the square of its predictor is rounded makes a
 // second pivot.
 fn two(rt: &impl Print, name: &str, first: f64) -> io::Result<()> {
-    let coords = [0.0; 4];
-    let x = [1e200, 94906267.0];
-    let y = [0.0; 2];
-    let trust = [first, 1.0];
+    let columns = Columns {
+        coords: &[0.0; 4],
+        predictors: &[1e200, 94906267.0],
+        responses: &[0.0; 2],
+        trusts: &[first, 1.0],
+    };
     let options = by_distance(GwrKernel::Gaussian, 1.0);
     let mut out = [0.0; 10];
-    show(rt, name, &coords, &x, &y, &trust, 1, options, &mut out)
+    show(rt, name, &columns, 1, options, &mut out)
 }
 
 // Two by Bisquare with one neighbour, which is as far away as the bandwidth and so weighs nothing.
 fn neighbours(rt: &impl Print, name: &str, first: f64, second: f64) -> io::Result<()> {
-    let coords = [0.0, 0.0, 1.0, 0.0];
-    let x = [0.0; 0];
-    let y = [3.0, 4.0];
-    let trust = [first, second];
+    let columns = Columns {
+        coords: &[0.0, 0.0, 1.0, 0.0],
+        predictors: &[],
+        responses: &[3.0, 4.0],
+        trusts: &[first, second],
+    };
     let options = by_count(GwrKernel::Bisquare, 1, false);
     let mut out = [0.0; 8];
-    show(rt, name, &coords, &x, &y, &trust, 0, options, &mut out)
+    show(rt, name, &columns, 0, options, &mut out)
 }
 
-// One alone, whose trust is its system's only pivot.
-fn alone(rt: &impl Print, name: &str, trust: f64, out: &mut [f64]) -> io::Result<()> {
-    let coords = [0.0, 0.0];
-    let x = [0.0; 0];
-    let y = [5.0];
-    let trusts = [trust];
+// One alone, whose trust is its system's only pivot, with room for so many of its row's four numbers.
+fn alone(rt: &impl Print, name: &str, trust: f64, room: usize) -> io::Result<()>
+    requires { room ≤ 4 }
+{
+    let columns = Columns {
+        coords: &[0.0, 0.0],
+        predictors: &[],
+        responses: &[5.0],
+        trusts: &[trust],
+    };
     let options = by_distance(GwrKernel::Gaussian, 1.0);
-    show(rt, name, &coords, &x, &y, &trusts, 0, options, out)
+    let mut out = [0.0; 4];
+    show(rt, name, &columns, 0, options, &mut out[..room])
 }
 
 // Four with one predictor.
 fn four(rt: &impl Print, name: &str, trust: &[f64], options: GwrOptions) -> io::Result<()> {
-    let coords = [0.0, 0.0, 1.0, 0.0, 0.0, 2.0, 3.0, 3.0];
-    let x = [1.0, 2.0, 4.0, 7.0];
-    let y = [2.0, 3.0, 5.0, 9.0];
+    let columns = Columns {
+        coords: &[0.0, 0.0, 1.0, 0.0, 0.0, 2.0, 3.0, 3.0],
+        predictors: &[1.0, 2.0, 4.0, 7.0],
+        responses: &[2.0, 3.0, 5.0, 9.0],
+        trusts: trust,
+    };
     let mut out = [0.0; 20];
-    show(rt, name, &coords, &x, &y, trust, 1, options, &mut out)
-}
-
-// One alone, with room for its row.
-fn one(rt: &impl Print, name: &str, trust: f64) -> io::Result<()> {
-    let mut out = [0.0; 4];
-    alone(rt, name, trust, &mut out)
-}
-
-// The same with room for less.
-fn one_short(rt: &impl Print, name: &str, trust: f64) -> io::Result<()> {
-    let mut out = [0.0; 3];
-    alone(rt, name, trust, &mut out)
+    show(rt, name, &columns, 1, options, &mut out)
 }
 
 fn surprises(rt: &impl Print) -> io::Result<()> {
@@ -182,15 +165,15 @@ fn surprises(rt: &impl Print) -> io::Result<()> {
 }
 
 fn alone_each(rt: &impl Print) -> io::Result<()> {
-    one(rt, "alone, trust 1e-13", 1e-13)?;
-    one(rt, "alone, trust 1e-11", 1e-11)?;
-    one(rt, "alone, trust 0", 0.0)?;
-    one(rt, "alone, trust -0", -0.0)?;
-    one(rt, "alone, trust NaN", 0.0 / 0.0)?;
-    one(rt, "alone, trust -1e-300", -1e-300)?;
-    one(rt, "alone, trust 1.0000000000000002", 1.0000000000000002)?;
-    one_short(rt, "alone, trust 2, the output too short", 2.0)?;
-    one_short(rt, "alone, trust 1, the output too short", 1.0)
+    alone(rt, "alone, trust 1e-13", 1e-13, 4)?;
+    alone(rt, "alone, trust 1e-11", 1e-11, 4)?;
+    alone(rt, "alone, trust 0", 0.0, 4)?;
+    alone(rt, "alone, trust -0", -0.0, 4)?;
+    alone(rt, "alone, trust NaN", 0.0 / 0.0, 4)?;
+    alone(rt, "alone, trust -1e-300", -1e-300, 4)?;
+    alone(rt, "alone, trust 1.0000000000000002", 1.0000000000000002, 4)?;
+    alone(rt, "alone, trust 2, the output too short", 2.0, 3)?;
+    alone(rt, "alone, trust 1, the output too short", 1.0, 3)
 }
 
 fn four_each(rt: &impl Print) -> io::Result<()> {

@@ -1,15 +1,17 @@
 // One turn of a list, some of which are lent what they must refuse.
-ghost use Rattle.std.specs.Prelude.{◌^◌, ◌<◌, ◌≤◌};
+ghost use Rattle.std.specs.Prelude.{◌^◌, ◌<◌};
 
-use crate::{compare, made};
+use crate::made;
 use job::Turned;
+use refusal::Refusal;
+use setup::Columns;
 use stepping::Job;
 
-// A turn, and the refusal that it must answer, 0 for none.
-#[derive(Drop)]
+// A turn, and the refusal that it must answer, if any.
+#[derive(Clone, Copy)]
 pub struct Given {
     pub turned: Turned,
-    pub want: u32,
+    pub want: Option<Refusal>,
 }
 
 // The allowance of a turn: zero, one, a few, many, or all that there are.
@@ -17,7 +19,7 @@ fn allowance_of(seed: u64, k: u32) -> u32
     requires { seed < 2 ^ 31 }
 {
     if 36 < k {
-        return 4294967295;
+        return u32::MAX;
     }
     let few = made::draw(made::next_seed(seed), 12) as u32;
     match made::draw(seed, 24) {
@@ -25,156 +27,185 @@ fn allowance_of(seed: u64, k: u32) -> u32
         4..=11 => 1,
         12..=15 => few + 2,
         16..=19 => 40,
-        20 => 4294967295,
+        20 => u32::MAX,
         _ => few,
     }
 }
 
-// One of two numbers.
-pub fn pick(first: bool, a: f64, b: f64) -> f64 {
-    if first { a } else { b }
+// What a turn is lent.
+#[derive(Clone, Copy, PartialEq, Eq)]
+enum Kind {
+    // The job's own.
+    Plain,
+    NoResponses,
+    NoCoordinates,
+    NoOutput,
+    BadResponse,
+    BadCoordinate,
+    BadPredictor,
+    // One predictor too few or, where there is none, some too many.
+    OtherPredictors,
+    TrustAboveOne,
+    TrustNan,
+    NoTrusts,
+    // More than there are observations.
+    ManyTrusts,
+    TrustNanNoOutput,
+}
+
+// The kinds that are drawn; the last five spoil trusts.
+const KINDS: [Kind; 12] = [
+    Kind::NoResponses,
+    Kind::NoCoordinates,
+    Kind::NoOutput,
+    Kind::BadResponse,
+    Kind::BadCoordinate,
+    Kind::BadPredictor,
+    Kind::OtherPredictors,
+    Kind::TrustAboveOne,
+    Kind::TrustNan,
+    Kind::NoTrusts,
+    Kind::ManyTrusts,
+    Kind::TrustNanNoOutput,
+];
+
+// Which turn this is: the last one of a list is a plain one, and only lists that spoil trusts have the kinds that do. Where there is no
+// predictor to spoil, no output is lent.
+fn kind_of(seed: u64, k: u32, spoils: bool, x: &[f64]) -> Kind
+    requires { seed < 2 ^ 31 }
+{
+    let at = made::draw(made::next_seed(seed), 24) as usize;
+    let kinds = if spoils { 12 } else { 7 };
+    if (38 < k) | (kinds <= at) {
+        return Kind::Plain;
+    }
+    let kind = KINDS.get(at).copied().unwrap_or(Kind::Plain);
+    if (kind == Kind::BadPredictor) & x.is_empty() {
+        Kind::NoOutput
+    } else {
+        kind
+    }
+}
+
+impl Kind {
+    // How many coordinates, predictors, responses and trusts are lent.
+    fn coordinates(self, columns: &Columns<'_>) -> usize {
+        match self {
+            Kind::NoCoordinates => 0,
+            _ => columns.coords.len(),
+        }
+    }
+
+    fn predictors(self, columns: &Columns<'_>) -> usize {
+        match self {
+            Kind::OtherPredictors => {
+                if columns.predictors.is_empty() {
+                    columns.responses.len()
+                } else {
+                    columns.predictors.len() - 1
+                }
+            }
+            _ => columns.predictors.len(),
+        }
+    }
+
+    fn responses(self, columns: &Columns<'_>) -> usize {
+        match self {
+            Kind::NoResponses => 0,
+            _ => columns.responses.len(),
+        }
+    }
+
+    fn trusts(self, columns: &Columns<'_>) -> usize {
+        match self {
+            Kind::NoTrusts => 0,
+            Kind::ManyTrusts => 12,
+            _ => columns.trusts.len(),
+        }
+    }
+
+    fn lends_output(self) -> bool {
+        (self != Kind::NoOutput) & (self != Kind::TrustNanNoOutput)
+    }
+
+    // What the last number of a slice is replaced with by turns of one kind, and the last trust.
+    fn bad(self, spoils: Kind, v: f64) -> Option<f64> {
+        (self == spoils).then_some(v)
+    }
+
+    fn bad_trust(self) -> Option<f64> {
+        match self {
+            Kind::TrustAboveOne => Some(1.0000000000000002),
+            Kind::TrustNan | Kind::TrustNanNoOutput => Some(f64::NAN),
+            _ => None,
+        }
+    }
+
+    // The refusal of a turn of this kind.
+    fn refusal(self) -> Option<Refusal> {
+        match self {
+            Kind::Plain => None,
+            Kind::NoResponses
+            | Kind::NoCoordinates
+            | Kind::OtherPredictors
+            | Kind::NoTrusts
+            | Kind::ManyTrusts => Some(Refusal::LengthsDiffer),
+            Kind::NoOutput => Some(Refusal::OutputTooShort),
+            Kind::BadResponse => Some(Refusal::ResponseNotFinite),
+            Kind::BadCoordinate => Some(Refusal::CoordinateNotFinite),
+            Kind::BadPredictor => Some(Refusal::PredictorNotFinite),
+            Kind::TrustAboveOne | Kind::TrustNan | Kind::TrustNanNoOutput => {
+                Some(Refusal::TrustOutOfRange)
+            }
+        }
+    }
 }
 
 // Copies the numbers of a slice to the start of another, the last one replaced where it is to be spoiled.
-fn lent(from: &[f64], to: &mut [f64], spoil: bool, last: f64) {
-    let n = end_of(true, from.len(), to.len());
-    for i in 0..n {
-        let at_last = compare::both(spoil, i + 1 == n);
-        to[i] = pick(at_last, last, from[i]);
-    }
-}
-
-// The end of a part: n where it is whole and there is so much, 0 where it is not.
-fn end_of(whole: bool, n: usize, most: usize) -> usize
-    ensures { (result ≤ n) × (result ≤ most) }
-{
-    if whole {
-        if n < most { n } else { most }
-    } else {
-        0
-    }
-}
-
-// What stands for a plain turn among the kinds.
-const PLAIN: u64 = 24;
-
-// Which turn this is: the last one of a list is a plain one, and only lists that spoil trusts have the kinds 7 to 11.
-fn kind_of(seed: u64, k: u32, spoils: bool) -> u64
-    requires { seed < 2 ^ 31 }
-{
-    if 38 < k {
-        return PLAIN;
-    }
-    let kind = made::draw(made::next_seed(seed), 24);
-    if spoils {
-        return kind;
-    }
-    if 6 < kind { PLAIN } else { kind }
-}
-
-// How many predictors are lent: kind 6 has one too few or, where there is none, some too many.
-fn lent_predictors(kind: u64, x: usize, n: usize) -> usize {
-    if kind == 6 {
-        if 0 < x { x - 1 } else { n }
-    } else {
-        x
-    }
-}
-
-// Whether the output is lent: not in the kinds 2 and 11, nor in kind 5 where there is no predictor to spoil.
-fn lends_output(kind: u64, x: usize) -> bool {
-    match kind {
-        2 | 11 => false,
-        5 => 0 < x,
-        _ => true,
-    }
-}
-
-// How many trusts are lent: none in kind 9, and in kind 10 more than there are observations.
-fn lent_trusts(kind: u64, n: usize) -> usize {
-    match kind {
-        9 => 0,
-        10 => 12,
-        _ => n,
-    }
-}
-
-// Whether a trust is spoiled: in the kinds 7 and 8, and in kind 11, which lends no output either.
-fn spoils_trust(kind: u64) -> bool {
-    match kind {
-        7 | 8 | 11 => true,
-        _ => false,
-    }
-}
-
-// What the last trust is replaced with where it is spoiled.
-fn bad_trust(kind: u64) -> f64 {
-    if kind == 7 {
-        1.0000000000000002
-    } else {
-        0.0 / 0.0
+fn lend(from: &[f64], to: &mut [f64], last: Option<f64>) {
+    let n = from.len().min(to.len());
+    to[..n].copy_from_slice(&from[..n]);
+    if let (Some(bad), Some(slot)) = (last, to[..n].last_mut()) {
+        *slot = bad;
     }
 }
 
 // A turn of this kind.
-fn turn_of(
-    kind: u64,
-    j: Job,
-    coords: &[f64],
-    x: &[f64],
-    y: &[f64],
-    trust: &[f64],
-    out: &mut [f64],
-    allowance: u32,
-) -> Turned {
-    let mut places = [0.0; 24];
-    let mut predictors = [0.0; 36];
-    let mut responses = [0.0; 12];
-    let mut trusts = [0.0; 12];
-    lent(coords, &mut places, kind == 4, real::infinity());
-    lent(x, &mut predictors, kind == 5, 0.0 / 0.0);
-    lent(y, &mut responses, kind == 3, 0.0 / 0.0);
-    lent(trust, &mut trusts, spoils_trust(kind), bad_trust(kind));
-    let a = end_of(kind != 1, coords.len(), 24);
-    let b = end_of(true, lent_predictors(kind, x.len(), y.len()), 36);
-    let c = end_of(kind != 0, y.len(), 12);
-    let d = end_of(true, lent_trusts(kind, trust.len()), 12);
-    let e = end_of(lends_output(kind, x.len()), out.len(), out.len());
-    job::turn(
-        j,
-        &places[..a],
-        &predictors[..b],
-        &responses[..c],
-        &trusts[..d],
-        &mut out[..e],
-        allowance,
-    )
-}
-
-// The refusal of a turn of this kind, 0 for none: 20 on a job that has ended.
-fn wanted(j: Job, kind: u64, x: usize) -> u32 {
-    let stage = j.stage;
-    if stage.is_ended() {
-        return 20;
-    }
-    match kind {
-        0 | 1 | 6 | 9 | 10 => 21,
-        2 => 13,
-        3 => 8,
-        4 => 9,
-        5 => if 0 < x { 10 } else { 13 },
-        7 | 8 | 11 => 26,
-        _ => 0,
-    }
+fn turn_of(kind: Kind, j: Job, columns: &Columns<'_>, out: &mut [f64], allowance: u32) -> Turned {
+    let mut coords = [0.0; 24];
+    let mut x = [0.0; 36];
+    let mut y = [0.0; 12];
+    let mut trust = [0.0; 12];
+    lend(
+        columns.coords,
+        &mut coords,
+        kind.bad(Kind::BadCoordinate, f64::INFINITY),
+    );
+    lend(
+        columns.predictors,
+        &mut x,
+        kind.bad(Kind::BadPredictor, f64::NAN),
+    );
+    lend(
+        columns.responses,
+        &mut y,
+        kind.bad(Kind::BadResponse, f64::NAN),
+    );
+    lend(columns.trusts, &mut trust, kind.bad_trust());
+    let out_end = if kind.lends_output() { out.len() } else { 0 };
+    let lent = Columns {
+        coords: &coords[..kind.coordinates(columns).min(24)],
+        predictors: &x[..kind.predictors(columns).min(36)],
+        responses: &y[..kind.responses(columns).min(12)],
+        trusts: &trust[..kind.trusts(columns).min(12)],
+    };
+    job::turn(j, &lent, &mut out[..out_end], allowance)
 }
 
 // Turn k of a list.
 pub fn give_turn(
     j: Job,
-    coords: &[f64],
-    x: &[f64],
-    y: &[f64],
-    trust: &[f64],
+    columns: &Columns<'_>,
     out: &mut [f64],
     seed: u64,
     k: u32,
@@ -182,8 +213,12 @@ pub fn give_turn(
 ) -> Given
     requires { seed < 2 ^ 31 }
 {
-    let kind = kind_of(seed, k, spoils);
-    let want = wanted(j, kind, x.len());
-    let turned = turn_of(kind, j, coords, x, y, trust, out, allowance_of(seed, k));
+    let kind = kind_of(seed, k, spoils, columns.predictors);
+    let want = if j.stage.is_ended() {
+        Some(Refusal::AlreadyEnded)
+    } else {
+        kind.refusal()
+    };
+    let turned = turn_of(kind, j, columns, out, allowance_of(seed, k));
     Given { turned, want }
 }

@@ -1,7 +1,7 @@
 // Jobs made from a pseudo-random sequence with a fixed seed.
 ghost use Rattle.std.specs.Prelude.{◌≡◌, ◌^◌, ◌<◌, ◌≤◌, length};
 
-use crate::trusts;
+use crate::trusts::{self, Sort};
 use kernel::GwrKernel;
 use setup::{GwrBandwidth, GwrCriterion, GwrOptions};
 
@@ -33,7 +33,7 @@ pub fn draw(s: u64, k: u64) -> u64
     s / 65536 % k
 }
 
-// A value: whole numbers 0 to 2, huge numbers, or tenths up to 100.
+// A value: whole numbers 0 to 2, huge numbers, or tenths up to 100. By a number, which a seed draws.
 fn value(s: u64, style: u64) -> f64 {
     let v = (draw(s, 1000) as u32) as f64 / 10.0;
     match style {
@@ -44,26 +44,25 @@ fn value(s: u64, style: u64) -> f64 {
     }
 }
 
-// Fills s with values; answers the seed after them.
-fn fill(s: &mut [f64], seed: u64, style: u64) -> u64
-    requires { seed < 2 ^ 31 }
+// Fills s with what f makes of each place and the next seed; answers the seed after them.
+pub fn fill<F: Fn(usize, u64) -> f64>(s: &mut [f64], seed: u64, f: F) -> u64
+    requires low { seed < 2 ^ 31 }
+    requires callable { F.IsAlwaysCallable f }
     ensures { result < 2 ^ 31 }
 {
     let mut at = seed;
-    for i in 0..s.len() {
+    for (i, v) in s.iter_mut().enumerate() {
         at = next_seed(at);
-        s[i] = value(at, style);
+        *v = f(i, at);
     }
     at
 }
 
-fn kernel_of(k: u64) -> GwrKernel {
-    match k % 3 {
-        0 => GwrKernel::Gaussian,
-        1 => GwrKernel::Bisquare,
-        _ => GwrKernel::Exponential,
-    }
-}
+const KERNELS: [GwrKernel; 3] = [
+    GwrKernel::Gaussian,
+    GwrKernel::Bisquare,
+    GwrKernel::Exponential,
+];
 
 fn bandwidth_of(k: u64, seed: u64) -> GwrBandwidth {
     if k % 2 == 0 {
@@ -75,27 +74,24 @@ fn bandwidth_of(k: u64, seed: u64) -> GwrBandwidth {
 
 // Case k: every kernel and kind in turn, sizes and values from the seed, and trusts of this sort. These are drawn from a seed of
 // their own, so that the case is otherwise the same whatever its sort.
-pub fn make_case(seed: u64, k: u64, criterion: GwrCriterion, sort: u64) -> Case
+pub fn make_case(seed: u64, k: u64, criterion: GwrCriterion, sort: Sort) -> Case
     requires { seed < 2 ^ 31 }
-    ensures sizes { (result.n ≤ 10) × (result.p ≤ 2) × (result.seed < 2 ^ 31) }
-    ensures lengths { (length result.coords ≡ 24) × (length result.x ≡ 36) × (length result.y ≡ 12) × (length result.trust ≡ 12) }
+    ensures { (result.n ≤ 10) × (result.p ≤ 2) × (result.seed < 2 ^ 31) }
 {
     let mut coords = [0.0; 24];
     let mut x = [0.0; 36];
     let mut y = [0.0; 12];
     let mut trust = [0.0; 12];
-    let kernel = kernel_of(k);
-    let bandwidth = bandwidth_of(k / 3, seed);
     let options = GwrOptions {
-        kernel,
-        bandwidth,
+        kernel: KERNELS[(k % 3) as usize],
+        bandwidth: bandwidth_of(k / 3, seed),
         optimize_bandwidth: k / 6 % 2 == 1,
         criterion,
     };
     let a = next_seed(seed);
-    let b = fill(&mut coords, a, draw(a, 8));
-    let c = fill(&mut x, b, draw(b, 8));
-    let d = fill(&mut y, c, draw(c, 8));
+    let b = fill(&mut coords, a, |_, s| value(s, draw(a, 8)));
+    let c = fill(&mut x, b, |_, s| value(s, draw(b, 8)));
+    let d = fill(&mut y, c, |_, s| value(s, draw(c, 8)));
     let n = draw(d, 10) + 1;
     trusts::fill_trusts(&mut trust, sort, draw(d / 2, n) as usize, d / 2);
     Case {

@@ -14,10 +14,15 @@ mod trusts;
 use setup::GwrCriterion;
 use std::io;
 use tally::Tally;
+use trusts::{SORTS, Sort};
 
 // The sort of job k's trusts: all 1, or every sort in turn, each for as many jobs as there are kernels and kinds.
-fn sort_of(k: u64, trusted: bool) -> u64 {
-    if trusted { k / 12 % trusts::SORTS } else { 0 }
+fn sort_of(k: u64, trusted: bool) -> Sort {
+    if trusted {
+        SORTS[(k / 12 % 12) as usize]
+    } else {
+        SORTS[0]
+    }
 }
 
 // So many jobs of one seed by this criterion, with trusts of every sort or all of them 1.
@@ -27,16 +32,17 @@ fn play_all(criterion: GwrCriterion, jobs: u64, trusted: bool) -> Tally {
     for k in 0..jobs {
         seed = made::next_seed(seed);
         let case = made::make_case(seed, k, criterion, sort_of(k, trusted));
-        t = play::play_case(case, trusted, t);
+        play::play_case(case, trusted, &mut t);
     }
     t
 }
 
 fn main(rt: HostRuntime) -> io::Result<()> {
-    let unguarded = play_all(GwrCriterion::Unguarded, 400, false);
-    report::print(&rt, refuse::refuse_unfit(unguarded))?;
+    let mut unguarded = play_all(GwrCriterion::Unguarded, 400, false);
+    refuse::refuse_unfit(&mut unguarded);
+    report::print(&rt, &unguarded)?;
     report::title(&rt, "guarded")?;
-    report::print(&rt, play_all(GwrCriterion::Guarded, 400, false))?;
+    report::print(&rt, &play_all(GwrCriterion::Guarded, 400, false))?;
     report::title(&rt, "trusted")?;
-    report::print(&rt, play_all(GwrCriterion::Unguarded, 1440, true))
+    report::print(&rt, &play_all(GwrCriterion::Unguarded, 1440, true))
 }

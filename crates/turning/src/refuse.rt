@@ -1,167 +1,139 @@
 // Records at the limits of what is fit: a turn must refuse those beyond them with 19.
 use crate::compare;
-use crate::compare::WORKING;
 use crate::tally::Tally;
-use criterion::Criterion;
 use golden::Bracket;
 use kernel::GwrKernel;
-use setup::{GwrBandwidth, GwrOptions, Setup};
+use refusal::Refusal;
+use setup::{Columns, GwrBandwidth, GwrOptions, Setup};
 use stepping::{Job, Stage, Trials};
 use sweep::Sweep;
 
-// A record in numbers, and what a turn with no allowance on it must answer: a refusal, or WORKING.
+// A record, and the refusal that a turn with no allowance on it must answer, if any.
 #[derive(Clone, Copy)]
 struct Row {
-    stage: u32,
-    kind: usize,
-    bandwidth: usize,
+    job: Job,
+    want: Option<Refusal>,
+}
+
+const UNFIT: Option<Refusal> = Some(Refusal::UnfitRecord);
+
+const OTHER: Option<Refusal> = Some(Refusal::LengthsDiffer);
+
+const ENDED: Option<Refusal> = Some(Refusal::AlreadyEnded);
+
+const DISTANCE: GwrBandwidth = GwrBandwidth::Fixed(2.0);
+
+const END: Stage = Stage::Ended(Ok(1.0));
+
+fn count(k: usize) -> GwrBandwidth {
+    GwrBandwidth::AdaptiveKnn(k)
+}
+
+// A final fit of these sizes at this location, by options of one bandwidth and at another.
+fn shaped(
     n: usize,
     p: usize,
     location: usize,
-    trials: usize,
-    solves: u64,
-    want: u32,
-}
-
-// A final fit of these sizes at this location and bandwidth, 1000 for a distance.
-fn shaped(n: usize, p: usize, location: usize, kind: usize, bandwidth: usize, want: u32) -> Row {
-    Row {
-        stage: 4,
-        kind,
+    kind: GwrBandwidth,
+    bandwidth: GwrBandwidth,
+    want: Option<Refusal>,
+) -> Row {
+    let options = GwrOptions::unguarded(GwrKernel::Gaussian, kind, true);
+    let job = Job {
+        setup: Setup { options, n, p },
+        stage: Stage::Final,
+        trials: Trials {
+            bracket: Bracket::none(),
+            made: 3,
+        },
         bandwidth,
-        n,
-        p,
-        location,
-        trials: 3,
+        sweep: Sweep {
+            location,
+            trace: 0.0,
+            squares: 0.0,
+        },
         solves: 14,
-        want,
-    }
+    };
+    Row { job, want }
 }
 
 // A job of four observations and one predictor, at location 2, by a distance.
-fn tried(stage: u32, trials: usize, solves: u64, want: u32) -> Row {
-    Row {
-        stage,
-        kind: 1000,
-        bandwidth: 1000,
-        n: 4,
-        p: 1,
-        location: 2,
-        trials,
-        solves,
-        want,
-    }
+fn tried(stage: Stage, trials: usize, solves: u64, want: Option<Refusal>) -> Row {
+    let mut row = shaped(4, 1, 2, DISTANCE, DISTANCE, want);
+    row.job.stage = stage;
+    row.job.trials.made = trials;
+    row.job.solves = solves;
+    row
 }
 
-// Sizes and location, 21 where they are fit and not those of the data lent; a bandwidth of the other kind, or a count out of range.
-fn shape_row(k: u32) -> Row {
-    match k {
-        0 => shaped(513, 1, 2, 1000, 1000, 19),
-        1 => shaped(0, 0, 0, 1000, 1000, 19),
-        2 => shaped(4, 4, 2, 1000, 1000, 19),
-        3 => shaped(4, 8, 2, 1000, 1000, 19),
-        4 => shaped(4, 1, 3, 1000, 1000, WORKING),
-        5 => shaped(4, 1, 4, 1000, 1000, 19),
-        6 => shaped(5, 1, 2, 1000, 1000, 21),
-        7 => shaped(4, 3, 2, 1000, 1000, 21),
-        8 => shaped(4, 1, 2, 3, 1000, 19),
-        9 => shaped(4, 1, 2, 1000, 3, 19),
-        10 => shaped(4, 1, 2, 3, 513, 19),
-        11 => shaped(4, 1, 2, 3, 0, 19),
-        12 => shaped(4, 1, 2, 3, 512, WORKING),
-        _ => shaped(4, 1, 2, 3, 1, WORKING),
-    }
+// Sizes and location, which may be fit and not those of the data lent; a bandwidth of the other kind, or a count out of range.
+fn shape_rows() -> [Row; 14] {
+    [
+        shaped(513, 1, 2, DISTANCE, DISTANCE, UNFIT),
+        shaped(0, 0, 0, DISTANCE, DISTANCE, UNFIT),
+        shaped(4, 4, 2, DISTANCE, DISTANCE, UNFIT),
+        shaped(4, 8, 2, DISTANCE, DISTANCE, UNFIT),
+        shaped(4, 1, 3, DISTANCE, DISTANCE, None),
+        shaped(4, 1, 4, DISTANCE, DISTANCE, UNFIT),
+        shaped(5, 1, 2, DISTANCE, DISTANCE, OTHER),
+        shaped(4, 3, 2, DISTANCE, DISTANCE, OTHER),
+        shaped(4, 1, 2, count(3), DISTANCE, UNFIT),
+        shaped(4, 1, 2, DISTANCE, count(3), UNFIT),
+        shaped(4, 1, 2, count(3), count(513), UNFIT),
+        shaped(4, 1, 2, count(3), count(0), UNFIT),
+        shaped(4, 1, 2, count(3), count(512), None),
+        shaped(4, 1, 2, count(3), count(1), None),
+    ]
 }
 
 // Trials that a stage can have, and cannot; solves that trials and location allow, one more once the job has ended.
-fn trial_row(k: u32) -> Row {
-    match k {
-        14 => tried(1, 0, 2, WORKING),
-        15 => tried(1, 1, 2, 19),
-        16 => tried(2, 0, 2, 19),
-        17 => tried(2, 1, 2, WORKING),
-        18 => tried(2, 2, 2, 19),
-        19 => tried(3, 1, 2, 19),
-        20 => tried(3, 2, 2, WORKING),
-        21 => tried(3, 101, 2, WORKING),
-        22 => tried(3, 102, 2, 19),
-        23 => tried(4, 0, 2, WORKING),
-        24 => tried(4, 102, 2, WORKING),
-        25 => tried(4, 103, 2, 19),
-        26 => tried(4, 3, 14, WORKING),
-        27 => tried(4, 3, 15, 19),
-        28 => tried(5, 3, 15, 20),
-        29 => tried(5, 3, 16, 19),
-        30 => tried(5, 102, 2, 20),
-        _ => tried(5, 103, 2, 19),
-    }
+fn trial_rows() -> [Row; 18] {
+    [
+        tried(Stage::First, 0, 2, None),
+        tried(Stage::First, 1, 2, UNFIT),
+        tried(Stage::Second, 0, 2, UNFIT),
+        tried(Stage::Second, 1, 2, None),
+        tried(Stage::Second, 2, 2, UNFIT),
+        tried(Stage::Round, 1, 2, UNFIT),
+        tried(Stage::Round, 2, 2, None),
+        tried(Stage::Round, 101, 2, None),
+        tried(Stage::Round, 102, 2, UNFIT),
+        tried(Stage::Final, 0, 2, None),
+        tried(Stage::Final, 102, 2, None),
+        tried(Stage::Final, 103, 2, UNFIT),
+        tried(Stage::Final, 3, 14, None),
+        tried(Stage::Final, 3, 15, UNFIT),
+        tried(END, 3, 15, ENDED),
+        tried(END, 3, 16, UNFIT),
+        tried(END, 102, 2, ENDED),
+        tried(END, 103, 2, UNFIT),
+    ]
 }
 
-fn row_of(k: u32) -> Row {
-    if k < 14 { shape_row(k) } else { trial_row(k) }
-}
-
-fn stage_of(stage: u32) -> Stage {
-    match stage {
-        1 => Stage::First,
-        2 => Stage::Second,
-        3 => Stage::Round,
-        4 => Stage::Final,
-        _ => Stage::Ended(Criterion::Value(1.0)),
-    }
-}
-
-// A count, or a distance for 1000.
-fn bandwidth_of(k: usize) -> GwrBandwidth {
-    if k == 1000 {
-        GwrBandwidth::Fixed(2.0)
-    } else {
-        GwrBandwidth::AdaptiveKnn(k)
-    }
-}
-
-fn record(row: Row) -> Job {
-    let options = GwrOptions::unguarded(GwrKernel::Gaussian, bandwidth_of(row.kind), true);
-    let trials = Trials {
-        bracket: Bracket::none(),
-        made: row.trials,
+// A turn on the record answers as is wanted, and moves nothing.
+fn judge(row: Row, t: &mut Tally) {
+    let columns = Columns {
+        coords: &[0.0, 0.0, 1.0, 0.0, 0.0, 2.0, 3.0, 3.0],
+        predictors: &[1.0, 2.0, 4.0, 7.0],
+        responses: &[2.0, 3.0, 5.0, 9.0],
+        trusts: &[1.0; 4],
     };
-    let sweep = Sweep {
-        location: row.location,
-        trace: 0.0,
-        squares: 0.0,
-    };
-    Job {
-        setup: Setup {
-            options,
-            n: row.n,
-            p: row.p,
-        },
-        stage: stage_of(row.stage),
-        trials,
-        bandwidth: bandwidth_of(row.bandwidth),
-        sweep,
-        solves: row.solves,
-    }
-}
-
-// A turn on the record answers this refusal, or WORKING, and moves nothing where it refuses.
-fn judge(j: Job, want: u32, t: Tally) -> Tally {
-    let coords = [0.0, 0.0, 1.0, 0.0, 0.0, 2.0, 3.0, 3.0];
-    let x = [1.0, 2.0, 4.0, 7.0];
-    let y = [2.0, 3.0, 5.0, 9.0];
-    let trust = [1.0; 4];
-    let mut out = [0.5; 24];
     let before = [0.5; 24];
-    let turned = job::turn(j, &coords, &x, &y, &trust, &mut out, 0);
-    t.stood(turned, j, want, compare::same_reals(&out, &before))
+    let mut out = before;
+    let turned = job::turn(row.job, &columns, &mut out, 0);
+    t.stood(
+        turned,
+        row.job,
+        row.want,
+        compare::same_reals(&out, &before),
+    );
 }
 
-pub fn refuse_unfit(t: Tally) -> Tally {
-    let mut sum = t;
-    for k in 0..32u32 {
-        let row = row_of(k);
-        sum = judge(record(row), row.want, sum);
+pub fn refuse_unfit(t: &mut Tally) {
+    for row in shape_rows() {
+        judge(row, &mut *t);
     }
-    sum
+    for row in trial_rows() {
+        judge(row, &mut *t);
+    }
 }

@@ -1,12 +1,8 @@
 // What was counted.
 use crate::compare;
-use job::Turned;
+use job::{Answer, Turned};
+use refusal::Refusal;
 use stepping::Job;
-
-// One more, never past a thousand million.
-pub fn more(x: u64) -> u64 {
-    if x < 1000000000 { x + 1 } else { x }
-}
 
 #[derive(Drop)]
 pub struct Tally {
@@ -19,60 +15,66 @@ pub struct Tally {
     pub turned: [u64; 100],
 }
 
+// One more with this refusal, or with none.
+fn count(counts: &mut [u64; 100], refusal: Option<Refusal>) {
+    let number = refusal.map_or(0, |r| r.number());
+    if let Some(c) = counts.get_mut(number as usize) {
+        *c = c.saturating_add(1);
+    }
+}
+
+// Whether a turn that makes no step answers so: working where no refusal is wanted.
+fn stands_so(answer: Answer, want: Option<Refusal>) -> bool {
+    match answer {
+        Answer::Working => want.is_none(),
+        Answer::Refused(r) => want == Some(r),
+        Answer::Ended(_) => false,
+    }
+}
+
 impl Tally {
     pub fn new() -> Self {
-        let fits = [0u64; 100];
-        let turned = [0u64; 100];
         Tally {
             jobs: 0,
             lists: 0,
             turns: 0,
             differences: 0,
-            fits,
-            turned,
+            fits: [0; 100],
+            turned: [0; 100],
         }
     }
 
     // A comparison, which counts where it fails.
-    pub fn expect(mut self, same: bool) -> Self {
-        if same {
-            self
-        } else {
-            self.differences = more(self.differences);
-            self
+    pub fn expect(&mut self, same: bool) {
+        if !same {
+            self.differences = self.differences.saturating_add(1);
         }
     }
 
-    // A turn that is to answer this number, to make no step and to change neither the record nor the output.
-    pub fn stood(self, turned: Turned, before: Job, want: u32, same_out: bool) -> Self {
-        let answer = turned.answer;
-        let after = turned.job;
-        let number = compare::answer_number(answer);
-        let same = compare::both(compare::same_job(after, before), same_out);
-        let right = compare::both(number == want, turned.steps == 0);
-        self.answered(number).expect(compare::both(same, right))
+    // A turn that is to answer so, to make no step and to change neither the record nor the output.
+    pub fn stood(&mut self, turned: Turned, before: Job, want: Option<Refusal>, same_out: bool) {
+        let same = compare::same_job(turned.job, before) & same_out;
+        let right = stands_so(turned.answer, want) & (turned.steps == 0);
+        self.answered(turned.answer);
+        self.expect(same & right);
     }
 
-    pub fn listed(mut self) -> Self {
-        self.lists = more(self.lists);
-        self
+    pub fn listed(&mut self) {
+        self.lists = self.lists.saturating_add(1);
     }
 
-    pub fn fitted(mut self, number: u32) -> Self {
-        self.jobs = more(self.jobs);
-        let k = number as usize;
-        if k < 100 {
-            self.fits[k] = more(self.fits[k]);
+    pub fn fitted(&mut self, refusal: Option<Refusal>) {
+        self.jobs = self.jobs.saturating_add(1);
+        count(&mut self.fits, refusal);
+    }
+
+    // A turn after which the job works on counts with no number.
+    pub fn answered(&mut self, answer: Answer) {
+        self.turns = self.turns.saturating_add(1);
+        match answer {
+            Answer::Working => (),
+            Answer::Refused(r) => count(&mut self.turned, Some(r)),
+            Answer::Ended(f) => count(&mut self.turned, f.refusal),
         }
-        self
-    }
-
-    pub fn answered(mut self, number: u32) -> Self {
-        self.turns = more(self.turns);
-        let k = number as usize;
-        if k < 100 {
-            self.turned[k] = more(self.turned[k]);
-        }
-        self
     }
 }

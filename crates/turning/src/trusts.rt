@@ -1,85 +1,92 @@
 // Trusts of observations, by sorts.
 ghost use Rattle.std.specs.Prelude.{◌^◌, ◌<◌};
 
-use crate::{lend, made};
+use crate::made;
 
-// How many sorts there are.
-pub const SORTS: u64 = 12;
+// How a trust is made from a seed.
+#[derive(Clone, Copy)]
+enum Trust {
+    Given(f64),
+    // A number from 0 to 1, in tenths.
+    Tenths,
+    Tiny,
+    Smallest,
+    Outside,
+    // 1 as often as not.
+    OneOrTiny,
+    OneOrSmallest,
+}
 
-// A number from 0 to 1, in tenths.
+// From 1e-300 to 1e-10, half of them near the least pivot, 1e-12.
+const TINY: [f64; 6] = [1e-300, 1e-160, 1e-30, 5e-13, 2e-12, 5e-11];
+
+// From 5e-324 to 1e-305: a product with a weight has few digits left, or none.
+const SMALLEST: [f64; 6] = [5e-324, 1e-322, 1e-316, 1e-309, 2e-308, 5e-306];
+
+// What no trust is: just below 0 or above 1, or far from both.
+const OUTSIDE: [f64; 7] = [
+    -5e-324,
+    -1e-300,
+    -1.0,
+    -f64::INFINITY,
+    1.0000000000000002,
+    2.0,
+    f64::INFINITY,
+];
+
 fn tenths(s: u64) -> f64 {
     (made::draw(s, 11) as u32) as f64 / 10.0
 }
 
-// From 1e-300 to 1e-10, half of them near the least pivot, 1e-12.
-fn tiny(s: u64) -> f64 {
-    let most = match made::draw(s, 6) {
-        0 => 1e-300,
-        1 => 1e-160,
-        2 => 1e-30,
-        3 => 5e-13,
-        4 => 2e-12,
-        _ => 5e-11,
-    };
-    most * (1.0 + tenths(s))
+// Up to twice one of these.
+fn scaled(least: [f64; 6], s: u64) -> f64 {
+    least[made::draw(s, 6) as usize] * (1.0 + tenths(s))
 }
 
-// From 5e-324 to 1e-305: a product with a weight has few digits left, or none.
-fn smallest(s: u64) -> f64 {
-    let most = match made::draw(s, 6) {
-        0 => 5e-324,
-        1 => 1e-322,
-        2 => 1e-316,
-        3 => 1e-309,
-        4 => 2e-308,
-        _ => 5e-306,
-    };
-    most * (1.0 + tenths(s))
+fn one_or(small: f64, s: u64) -> f64 {
+    if made::draw(s, 2) == 0 { 1.0 } else { small }
 }
 
-// What no trust is: just below 0 or above 1, or far from both.
-fn outside(s: u64) -> f64 {
-    match made::draw(s, 7) {
-        0 => -5e-324,
-        1 => -1e-300,
-        2 => -1.0,
-        3 => -real::infinity(),
-        4 => 1.0000000000000002,
-        5 => 2.0,
-        _ => real::infinity(),
+impl Trust {
+    fn value(self, s: u64) -> f64 {
+        match self {
+            Trust::Given(v) => v,
+            Trust::Tenths => tenths(s),
+            Trust::Tiny => scaled(TINY, s),
+            Trust::Smallest => scaled(SMALLEST, s),
+            Trust::Outside => OUTSIDE[made::draw(s, 7) as usize],
+            Trust::OneOrTiny => one_or(scaled(TINY, s), s),
+            Trust::OneOrSmallest => one_or(scaled(SMALLEST, s), s),
+        }
     }
 }
 
-// A trust that is small: where it is not the one set apart, 1 as often as not.
-fn among_ones(one: bool, small: f64, s: u64) -> f64 {
-    lend::pick(one, small, lend::pick(made::draw(s, 2) == 0, 1.0, small))
-}
+// The trusts of a job: of one observation, set apart, and of the others.
+#[derive(Clone, Copy)]
+pub struct Sort(Trust, Trust);
 
-// The trust of an observation of a job of this sort; `one` is true of one of them. The sorts with a bad trust are 7 and 8.
-fn trust_of(sort: u64, one: bool, s: u64) -> f64 {
-    match sort {
-        0 => 1.0,
-        1 => 0.0,
-        2 => lend::pick(one, 0.0, 1.0),
-        3 => lend::pick(one, 1.0, 0.0),
-        4 => tiny(s),
-        5 => smallest(s),
-        6 => lend::pick(one, -0.0, tenths(s)),
-        7 => lend::pick(one, outside(s), tenths(s)),
-        8 => lend::pick(one, 0.0 / 0.0, tenths(s)),
-        9 => tenths(s),
-        10 => among_ones(one, tiny(s), s),
-        _ => among_ones(one, smallest(s), s),
-    }
-}
+// The first has every trust 1, and the eighth and ninth have a bad one.
+pub const SORTS: [Sort; 12] = [
+    Sort(Trust::Given(1.0), Trust::Given(1.0)),
+    Sort(Trust::Given(0.0), Trust::Given(0.0)),
+    Sort(Trust::Given(0.0), Trust::Given(1.0)),
+    Sort(Trust::Given(1.0), Trust::Given(0.0)),
+    Sort(Trust::Tiny, Trust::Tiny),
+    Sort(Trust::Smallest, Trust::Smallest),
+    Sort(Trust::Given(-0.0), Trust::Tenths),
+    Sort(Trust::Outside, Trust::Tenths),
+    Sort(Trust::Given(f64::NAN), Trust::Tenths),
+    Sort(Trust::Tenths, Trust::Tenths),
+    Sort(Trust::Tiny, Trust::OneOrTiny),
+    Sort(Trust::Smallest, Trust::OneOrSmallest),
+];
 
 // Fills s with trusts of this sort, the one at `one` set apart.
-pub fn fill_trusts(s: &mut [f64], sort: u64, one: usize, seed: u64)
+pub fn fill_trusts(s: &mut [f64], sort: Sort, one: usize, seed: u64)
     requires { seed < 2 ^ 31 }
 {
-    let mut at = seed;
-    for i in 0..s.len() {
-        at = made::next_seed(at);
-        s[i] = trust_of(sort, i == one, at);
-    }
+    made::fill(s, seed, |i, at| {
+        let trust = if i == one { sort.0 } else { sort.1 };
+        trust.value(at)
+    });
 }

@@ -6,20 +6,18 @@ use Prim.Native.Nat.{ℕ, ◌+◌}
 use lib.Dec.{ltb, T}
 use lib.ListN.{length, take, drop}
 use lib.Ieee.{Float, le, nan, inf, fin, lt, eq, is_nan, of_bits}
+use Rattle.std.specs.Prelude.{Option, Some, None, Ok, Err}
 use Rattle.real.specs.Reals.{zero64}
 use Rattle.wire.specs.Wire.{real_of, placed, bytes_of}
+use Rattle.refusal.specs.Numbers.{refusal_number}
 use Rattle.refusal.specs.declared.Refusal.{Refusal}
-use Rattle.refusal.specs.declared.Refusal.TheVariants.{OutputTooShort, CoordinateNotFinite, UnknownNumber}
+use Rattle.refusal.specs.declared.Refusal.TheVariants.{OutputTooShort, CoordinateNotFinite}
 use Rattle.kernel.specs.declared.GwrKernel.{GwrKernel}
-use Rattle.kernel.specs.declared.Weighed.{Weighed}
-use Rattle.kernel.specs.declared.Weighed.TheVariants.{Weight, BadDistance}
 use Rattle.kernel.specs.Weight.{weight_of, weighed}
-use Rattle.checks.specs.declared.Check.TheVariants as check
-use Rattle.checks.specs.Judge.{judge, ruled, NoneOf, Decides, Means}
+use Rattle.checks.specs.Judge.{Check, judge, ruled, NoneOf, Decides, Means}
 use Rattle.checks.proofs.Judge.{none_head, decides}
-use Rattle.request.specs.declared.KernelChoice.TheVariants as kernel
 use Rattle.request.specs.Options.{kernel_of, named_kernel}
-use Rattle.request.proofs.Options.{kernel_known}
+use Rattle.request.proofs.Options.{kernel_known, kernel_refused}
 use Rattle.weighing.specs.Weighing.{distance_tests, weight_tests, refused_weight, given_weight, weight_bytes, placed_weight, weighed_bytes}
 use mathlib.Core.Logic.{◌⊎◌, inl, inr}
 use Rattle.real.proofs.SignedOrder.{apart, nlt→le}
@@ -34,30 +32,30 @@ pub front_placed : (s : List ℕ) (v : ℕ) → take 0 s ++ (bytes_of v ++ drop 
 unfolding placed
 front_placed s v = sym (ap (λ (n : ℕ). take 0 s ++ (bytes_of v ++ drop (0 + n) s)) (length_bytes_of v))
 
-pub placed_is : (w v : Weighed) (out : List ℕ) (r : ℕ × List ℕ) → w ≡ v → r ≡ placed_weight v out → r ≡ placed_weight w out
-placed_is w v out r e h = h ∙ sym (ap (λ (z : Weighed). placed_weight z out) e)
+pub placed_is : (w v : Option Float) (out : List ℕ) (r : ℕ × List ℕ) → w ≡ v → r ≡ placed_weight v out → r ≡ placed_weight w out
+placed_is w v out r e h = h ∙ sym (ap (λ (z : Option Float). placed_weight z out) e)
 
 -- `weigh_distance` refuses exactly a NaN or negative distance
-pub weigh_decides : (k : GwrKernel) (d b : Float) → Decides (distance_tests d) (λ (r : Refusal). weighed k d b ≡ BadDistance) (weighed k d b ≡ Weight (weight_of k d b))
+pub weigh_decides : (k : GwrKernel) (d b : Float) → Decides (distance_tests d) (λ (r : Refusal). weighed k d b ≡ None) (weighed k d b ≡ Some (weight_of k d b))
 unfolding weighed judge
 weigh_decides k d b = record { refused = λ r e. bad (le zero64 d) r e; served = λ e. good (le zero64 d) e }
   where
-    bad : (c : Bool) (r : Refusal) → cond (not c) (check.Refused CoordinateNotFinite) check.Pass ≡ check.Refused r → cond c (Weight (weight_of k d b)) BadDistance ≡ BadDistance
+    bad : (c : Bool) (r : Refusal) → ◌≡◌ {A = Check} (cond (not c) (Err CoordinateNotFinite) (Ok tt)) (Err r) → cond c (Some (weight_of k d b)) None ≡ None
     bad true r e = cc
     bad false r e = refl
 
-    good : (c : Bool) → cond (not c) (check.Refused CoordinateNotFinite) check.Pass ≡ check.Pass → cond c (Weight (weight_of k d b)) BadDistance ≡ Weight (weight_of k d b)
+    good : (c : Bool) → ◌≡◌ {A = Check} (cond (not c) (Err CoordinateNotFinite) (Ok tt)) (Ok tt) → cond c (Some (weight_of k d b)) None ≡ Some (weight_of k d b)
     good true e = refl
     good false e = cc
 
 module _ (number d b : ℕ) (out : List ℕ) where
   -- 18
-  pub weight_unknown : kernel_of number ≡ kernel.Unknown → weight_bytes number d b out ≡ refused_weight UnknownNumber out
+  pub weight_unknown : {r : Refusal} → kernel_of number ≡ Err r → weight_bytes number d b out ≡ (refusal_number r, out)
   unfolding weight_bytes weight_tests judge ruled
-  weight_unknown e = rw e
+  weight_unknown e = rw e (ap (λ (z : Refusal). (refusal_number z, out)) (sym (kernel_refused number e)))
 
   -- 13, 9 and the weight
-  behind_18 : (k : GwrKernel) → kernel_of number ≡ kernel.Known k → weight_bytes number d b out ≡ weighed_bytes (weighed k (real_of d) (real_of b)) out
+  behind_18 : (k : GwrKernel) → kernel_of number ≡ Ok k → weight_bytes number d b out ≡ weighed_bytes (weighed k (real_of d) (real_of b)) out
   unfolding weight_bytes weight_tests weighed_bytes weighed judge ruled
   behind_18 k e = rw e (go (ltb (length out) 8) (le zero64 (real_of d)))
     where
@@ -65,22 +63,22 @@ module _ (number d b : ℕ) (out : List ℕ) where
       w = weight_of k (real_of d) (real_of b)
 
       go : (s f : Bool)
-          → ruled (cond s (check.Refused OutputTooShort) (cond (not f) (check.Refused CoordinateNotFinite) check.Pass)) (λ (r : Refusal). refused_weight r out) (given_weight w out)
-          ≡ cond s (refused_weight OutputTooShort out) (placed_weight (cond f (Weight w) BadDistance) out)
+          → ruled (cond s (Err OutputTooShort) (cond (not f) (Err CoordinateNotFinite) (Ok tt))) (λ (r : Refusal). refused_weight r out) (given_weight w out)
+          ≡ cond s (refused_weight OutputTooShort out) (placed_weight (cond f (Some w) None) out)
       go true f = refl
       go false true = refl
       go false false = refl
 
   -- the weight of a known kernel, as the code comes to it
-  pub weight_weighed : (k : GwrKernel) (x y : Float) (w : Weighed) → kernel_of number ≡ kernel.Known k → x ≡ real_of d → y ≡ real_of b → w ≡ weighed k x y → weighed_bytes w out ≡ weight_bytes number d b out
+  pub weight_weighed : (k : GwrKernel) (x y : Float) (w : Option Float) → kernel_of number ≡ Ok k → x ≡ real_of d → y ≡ real_of b → w ≡ weighed k x y → weighed_bytes w out ≡ weight_bytes number d b out
   weight_weighed k x y w e ex ey ew =
-      ap (λ (z : Weighed). weighed_bytes z out) (ew ∙ ap (λ (z : Float). weighed k z y) ex ∙ ap (λ (z : Float). weighed k (real_of d) z) ey) ∙ sym (behind_18 k e)
+      ap (λ (z : Option Float). weighed_bytes z out) (ew ∙ ap (λ (z : Float). weighed k z y) ex ∙ ap (λ (z : Float). weighed k (real_of d) z) ey) ∙ sym (behind_18 k e)
 
   pub weight_decides : Decides (weight_tests number d (length out)) (λ (r : Refusal). weight_bytes number d b out ≡ refused_weight r out) (weight_bytes number d b out ≡ given_weight (weight_of (named_kernel (kernel_of number)) (real_of d) (real_of b)) out)
   unfolding weight_bytes
   weight_decides = decides (weight_tests number d (length out)) refl
 
-pub weight_known : (number d out : ℕ) → NoneOf (weight_tests number d out) → kernel_of number ≡ kernel.Known (named_kernel (kernel_of number))
+pub weight_known : (number d out : ℕ) → NoneOf (weight_tests number d out) → kernel_of number ≡ Ok (named_kernel (kernel_of number))
 unfolding weight_tests
 weight_known number d out h = kernel_known (kernel_of number) (none_head _ _ _ h).0
 

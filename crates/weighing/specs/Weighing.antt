@@ -1,5 +1,5 @@
 -- The weight call: its list of tests, what it answers, and every byte that it leaves. Definitions only.
-use Rattle.std.specs.Prelude.{ℕ, Bool, cond, not, List, [], ◌∷◌, eqb, ltb, length, Float}
+use Rattle.std.specs.Prelude.{ℕ, Bool, cond, not, List, [], ◌∷◌, eqb, ltb, length, Float, Option, Some, None}
 use Rattle.std.specs.Float.Ieee.{le}
 use Rattle.real.specs.Reals.{zero64}
 use Rattle.wire.specs.Wire.{bits_of, real_of, bytes_of, placed}
@@ -7,8 +7,6 @@ use Rattle.refusal.specs.Numbers.{refusal_number}
 use Rattle.refusal.specs.declared.Refusal.{Refusal}
 use Rattle.refusal.specs.declared.Refusal.TheVariants.{CoordinateNotFinite, OutputTooShort, UnknownNumber}
 use Rattle.checks.specs.Judge.{judge, ruled}
-use Rattle.kernel.specs.declared.Weighed.{Weighed}
-use Rattle.kernel.specs.declared.Weighed.TheVariants.{Weight, BadDistance}
 use Rattle.kernel.specs.Weight.{weight_of}
 use Rattle.request.specs.Options.{kernel_of, is_unknown_kernel, named_kernel}
 
@@ -38,10 +36,10 @@ weight_bytes kernel d b out =
 -- ---- what the code's parts give
 
 -- what `weigh_distance` said, in the first 8 bytes
-abbrev pub placed_weight : Weighed → List ℕ → ℕ × List ℕ
-placed_weight (Weight w) out = given_weight w out
-placed_weight BadDistance out = refused_weight CoordinateNotFinite out
+abbrev pub placed_weight : Option Float → List ℕ → ℕ × List ℕ
+placed_weight (Some w) out = given_weight w out
+placed_weight None out = refused_weight CoordinateNotFinite out
 
 -- the same, or 13
-unfoldable pub weighed_bytes : Weighed → List ℕ → ℕ × List ℕ
+unfoldable pub weighed_bytes : Option Float → List ℕ → ℕ × List ℕ
 weighed_bytes w out = cond (ltb (length out) 8) (refused_weight OutputTooShort out) (placed_weight w out)

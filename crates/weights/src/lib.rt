@@ -3,37 +3,26 @@
 
 ghost use Rattle.std.specs.Prelude.{◌≡◌, replicate};
 ghost use Rattle.real.specs.Reals.{zero64};
-ghost use Rattle.setup.specs.Data.{trusted_data};
-ghost use Rattle.setup.specs.Shape.{Shaped};
 ghost use Rattle.weights.specs.Weights.{weights_from};
 
-use setup::Setup;
+use kernel::Place;
+use setup::Problem;
 
 mod near;
 
-// The weight of each observation, its trust included, in order, into w, which is handed over as zeros; answers their sum.
-pub fn weigh(
-    coords: &[f64],
-    x: &[f64],
-    y: &[f64],
-    trust: &[f64],
-    u: Setup,
-    east: f64,
-    north: f64,
-    b: f64,
-    w: &mut [f64; 512],
-) -> f64
-    requires shaped { Shaped u (trusted_data coords.now x.now y.now trust.now) }
+// The weight of each observation seen from the place, its trust included, in order, into w, which is handed over as zeros; answers
+// their sum.
+pub fn weigh(problem: &Problem<'_>, place: Place, b: f64, w: &mut [f64; 512]) -> f64
     requires zeros { w.old ≡ replicate 512 zero64 }
-    ensures { (w.new, result) ≡ weights_from u (trusted_data coords.now x.now y.now trust.now) east north b }
+    ensures { (w.new, result) ≡ weights_from problem.now.setup problem.now.columns place.east place.north b }
 {
-    let n = u.n;
-    let options = u.options;
-    let kernel = options.kernel;
+    let coords = problem.coords();
+    let trusts = problem.trusts();
+    let kernel = problem.setup().options.kernel;
     let reach = kernel.reach(b);
-    if reach == reach {
-        near::weigh_within(coords, trust, n, kernel, east, north, b, reach, w)
+    if reach.is_nan() {
+        near::weigh_all(coords, trusts, kernel, place, b, w)
     } else {
-        near::weigh_all(coords, trust, n, kernel, east, north, b, w)
+        near::weigh_within(coords, trusts, kernel, place, b, reach, w)
     }
 }

@@ -5,62 +5,57 @@ ghost use Rattle.std.specs.Prelude.{◌≡◌, ◌*◌, ◌≤◌, length};
 ghost use Rattle.kernel.specs.Reach.{Reach};
 ghost use Rattle.weights.specs.Near.{near_distance, near_weights, kernel_over, Filled};
 
-use kernel::GwrKernel;
+use kernel::{GwrKernel, Place};
 
-// A guess at the distance of each observation from (east, north), into y. How near they come is not claimed.
-fn guess_all(coords: &[f64], n: usize, east: f64, north: f64, y: &mut [f64; 512])
-    requires lengths { (length coords.now ≡ 2 * n) × (n ≤ 512) }
-    requires long { length y.old ≡ 512 }
-    ensures { length y.new ≡ 512 }
+// A guess at the distance of each observation from the place, into y. How near they come is not claimed.
+fn guess_all(coords: &[f64], place: Place, y: &mut [f64])
+    requires { 2 * length y.old ≤ length coords.now }
 {
-    for j in 0..n {
-        y[j] = kernel::guess_distance(east, north, coords[2 * j], coords[2 * j + 1]);
+    for (j, d) in y.iter_mut().enumerate() {
+        *d = place.guess_distance(Place::at(coords, j));
     }
 }
 
-// The distance of each observation from (east, north), into y, which holds guesses at them.
-fn settle_all(coords: &[f64], n: usize, east: f64, north: f64, y: &mut [f64; 512])
-    requires lengths { (length coords.now ≡ 2 * n) × (n ≤ 512) }
-    requires long { length y.old ≡ 512 }
-    ensures still_long { length y.new ≡ 512 }
-    ensures filled { Filled (near_distance coords.now east north) n y.new }
+// The distance of each observation from the place, into y, which holds guesses at them.
+fn settle_all(coords: &[f64], place: Place, y: &mut [f64])
+    requires { 2 * length y.old ≤ length coords.now }
+    ensures { Filled (near_distance coords.now place.east place.north) (length y.new) y.new }
 {
-    for j in 0..n {
-        y[j] = kernel::settle_distance(east, north, coords[2 * j], coords[2 * j + 1], y[j]);
+    for (j, d) in y.iter_mut().enumerate() {
+        *d = place.settle_distance(Place::at(coords, j), *d);
     }
 }
 
-// The kernel's weight at each of the first n distances, in its place.
-fn kernel_all(n: usize, kernel: GwrKernel, b: f64, y: &mut [f64; 512])
-    requires { (n ≤ 512) × (length y.old ≡ 512) }
-    ensures { Filled (kernel_over kernel b y.old) n y.new }
+// The kernel's weight at each distance, in its place.
+fn kernel_all(kernel: GwrKernel, b: f64, y: &mut [f64])
+    ensures { Filled (kernel_over kernel b y.old) (length y.new) y.new }
 {
-    for j in 0..n {
-        y[j] = kernel.weight(y[j], b);
+    for d in y.iter_mut() {
+        *d = kernel.weight(*d, b);
     }
 }
 
 // The weight of each observation, its trust included, in order, into w; answers their sum.
 pub fn weigh_all(
     coords: &[f64],
-    trust: &[f64],
-    n: usize,
+    trusts: &[f64],
     kernel: GwrKernel,
-    east: f64,
-    north: f64,
+    place: Place,
     b: f64,
     w: &mut [f64; 512],
 ) -> f64
-    requires { (length coords.now ≡ 2 * n) × (length trust.now ≡ n) × (n ≤ 512) }
-    ensures { (w.new, result) ≡ near_weights kernel coords.now trust.now n east north b w.old }
+    requires { (length coords.now ≡ 2 * length trusts.now) × (length trusts.now ≤ 512) }
+    ensures { (w.new, result) ≡ near_weights kernel coords.now trusts.now (length trusts.now) place.east place.north b w.old }
 {
-    let mut y = [0.0; 512];
-    guess_all(coords, n, east, north, &mut y);
-    settle_all(coords, n, east, north, &mut y);
-    kernel_all(n, kernel, b, &mut y);
+    let mut made = [0.0; 512];
+    let y = &mut made[..trusts.len()];
+    guess_all(coords, place, &mut *y);
+    settle_all(coords, place, &mut *y);
+    kernel_all(kernel, b, &mut *y);
     let mut sum = 0.0;
-    for j in 0..n {
-        let v = y[j] * trust[j];
+    // By an index: what a zip over lent numbers writes is not known behind it.
+    for j in 0..trusts.len() {
+        let v = y[j] * trusts[j];
         w[j] = v;
         sum = sum + v;
     }
@@ -70,23 +65,21 @@ pub fn weigh_all(
 // The same, for the reach of the kernel at bandwidth b: no root is taken beyond it.
 pub fn weigh_within(
     coords: &[f64],
-    trust: &[f64],
-    n: usize,
+    trusts: &[f64],
     kernel: GwrKernel,
-    east: f64,
-    north: f64,
+    place: Place,
     b: f64,
     reach: f64,
     w: &mut [f64; 512],
 ) -> f64
-    requires lengths { (length coords.now ≡ 2 * n) × (length trust.now ≡ n) × (n ≤ 512) }
+    requires lengths { (length coords.now ≡ 2 * length trusts.now) × (length trusts.now ≤ 512) }
     requires reach { Reach kernel b reach }
-    ensures { (w.new, result) ≡ near_weights kernel coords.now trust.now n east north b w.old }
+    ensures { (w.new, result) ≡ near_weights kernel coords.now trusts.now (length trusts.now) place.east place.north b w.old }
 {
     let mut sum = 0.0;
-    for j in 0..n {
-        let s = kernel::squares(east, north, coords[2 * j], coords[2 * j + 1]);
-        let v = kernel.weight_within(s, b, reach) * trust[j];
+    for j in 0..trusts.len() {
+        let s = place.squares(Place::at(coords, j));
+        let v = kernel.weight_within(s, b, reach) * trusts[j];
         w[j] = v;
         sum = sum + v;
     }

@@ -5,7 +5,7 @@ use Prim.Native.Nat.{ℕ, ◌+◌, ◌*◌, ◌≤◌, ◌<◌}
 use native.Mathlib.Numerals.{add-one}
 use native.Mathlib.Omega.{arith}
 use lib.ListN.{length, take, drop, get_or, length-append}
-use lib.Seq.{length-take-le, take-suc, take_at, drop_at, drop-drop}
+use lib.Seq.{length-take-le, take-length, take-suc, take_at, drop_at, drop-drop}
 use lib.Ieee.{Float, nan}
 use Rattle.wire.specs.Wire.{real_bytes, bytes_of, bits_of}
 use Rattle.wire.proofs.Numbers.{length_bytes_of}
@@ -28,26 +28,23 @@ real_bytes_next xs k h =
     ∙ real_bytes_append (take k xs) (get_or xs k nan ∷ [])
     ∙ ap (λ (l : List ℕ). real_bytes (take k xs) ++ l) (append-nil (bytes_of (bits_of (get_or xs k nan))))
 
-pub record Encoding (from : List Float) (s₀ : List ℕ) (count k : ℕ) (s : List ℕ) : Type 0 where
-  pub most : k ≤ count
+pub record Encoding (from : List Float) (s₀ : List ℕ) (k : ℕ) (s : List ℕ) : Type 0 where
   pub is : s ≡ real_bytes (take k from) ++ drop (8 * k) s₀
-  pub long : length s ≡ length s₀
 
-module _ {from : List Float} {s₀ : List ℕ} {count : ℕ} where
-  pub start : Encoding from s₀ count 0 s₀
+module _ {from : List Float} {s₀ : List ℕ} where
+  pub start : Encoding from s₀ 0 s₀
   unfolding real_bytes
-  start = record { most = omega arith; is = refl; long = refl }
+  start = record { is = refl }
 
-  pub next : {k : ℕ} {s t : List ℕ} {b : ℕ} → Encoding from s₀ count k s → k < count → count ≤ length from → b ≡ bits_of (get_or from k nan)
-      → t ≡ take (8 * k) s ++ (bytes_of b ++ drop (8 * k + 8) s) → length t ≡ length s → Encoding from s₀ count (k + 1) t
-  next {k} {s} {t} {b} c h room e stored same =
+  pub next : {k : ℕ} {s t : List ℕ} {b : ℕ} → Encoding from s₀ k s → k < length from → b ≡ bits_of (get_or from k nan)
+      → t ≡ take (8 * k) s ++ (bytes_of b ++ drop (8 * k + 8) s) → Encoding from s₀ (k + 1) t
+  next {k} {s} {t} {b} c h e stored =
       let front : List ℕ = real_bytes (take k from) in
       let long : length front ≡ 8 * k = length_real_bytes (take k from) ∙ ap (λ (n : ℕ). 8 * n) (length-take-le k from (omega arith)) in
       let rest : drop (8 * k + 8) (front ++ drop (8 * k) s₀) ≡ drop (8 * k + 8) s₀ =
       sym (drop-drop 8 (8 * k) (front ++ drop (8 * k) s₀)) ∙ ap (drop 8) (drop_at front (drop (8 * k) s₀) (8 * k) long) ∙ drop-drop 8 (8 * k) s₀ in
       let n : 8 * k + 8 ≡ 8 * (k + 1) = omega arith in
       record {
-        most = omega arith;
         is =
             stored
             ∙ ap (λ (x : List ℕ). take (8 * k) x ++ (bytes_of b ++ drop (8 * k + 8) x)) c.is
@@ -57,8 +54,7 @@ module _ {from : List Float} {s₀ : List ℕ} {count : ℕ} where
             ∙ ap (λ (x : ℕ). (front ++ bytes_of x) ++ drop (8 * k + 8) s₀) e
             ∙ ap (λ (x : List ℕ). x ++ drop (8 * k + 8) s₀) (sym (real_bytes_next from k (omega arith)))
             ∙ ap (λ (x : ℕ). real_bytes (take (k + 1) from) ++ drop x s₀) n;
-        long = same ∙ c.long;
       }
 
-  pub done : {k : ℕ} {s : List ℕ} → Encoding from s₀ count k s → count ≤ k → s ≡ real_bytes (take count from) ++ drop (8 * count) s₀
-  done {k} c h = let e : k ≡ count = omega arith in c.is ∙ ap (λ (n : ℕ). real_bytes (take n from) ++ drop (8 * n) s₀) e
+  pub done : {k : ℕ} {s : List ℕ} → Encoding from s₀ k s → k ≤ length from → length from ≤ k → s ≡ real_bytes from ++ drop (8 * length from) s₀
+  done {k} c most h = let e : k ≡ length from = omega arith in rw (c.is, e, take-length from)

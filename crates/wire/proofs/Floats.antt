@@ -1,11 +1,11 @@
 -- Reals and their bits: one gives the other back.
 use mathlib.Core.Path.{◌≡◌, refl, sym, ap, ◌∙◌, subst}
 use mathlib.Core.Bool.{Bool, true, false, not}
-use Prim.Native.Nat.{ℕ, ◌*◌, ◌%◌, ◌^◌, ◌≤◌, ◌<◌}
+use Prim.Native.Nat.{ℕ, ◌*◌, ◌^◌, ◌<◌}
 use lib.Dec.{T}
-use borrow.Author.Tests.{eq-eqb, lt-ltb, le-ltb}
+use borrow.Author.Tests.{eq-eqb}
 use lib.Ieee.{Float, nan, inf, fin, binary64, eq, is_nan, fits, of_bits, to_bits, nan_bits, level, up, down}
-use lib.Ieee.Bits.{of_bits-to_bits, to_bits-of_bits, nan_bits_is, nan_bits_above}
+use lib.Ieee.Bits.{of_bits-to_bits, to_bits-of_bits, nan_bits_is}
 use Rattle.wire.specs.Wire.{bits_of, real_of}
 
 -- the bits of NaN are those that to_bits has
@@ -23,36 +23,14 @@ pub real_bits : (b : ℕ) → b < 2 ^ 64 → T (not (nan_bits binary64 b)) → b
 unfolding real_of
 real_bits b h n = bits_of_is (of_bits binary64 b) ∙ to_bits-of_bits binary64 b h (subst (λ (t : Bool). T (not t)) (nan_bits_is binary64 b) n)
 
--- what equals itself is no NaN
-pub is_number : (y : Float) → eq y y ≡ true → T (not (is_nan y))
-unfolding eq is_nan
-is_number nan e = subst T (sym e) tt
-is_number (inf s) e = tt
-is_number (fin s m e') e = tt
-
 same_level : (s : Bool) (a : ℕ) → level s a s a ≡ true
 same_level true a = rw (eq-eqb a a refl)
 same_level false a = rw (eq-eqb a a refl)
 
--- what does not is NaN
+-- what does not equal itself is NaN
 pub is_nan_lem : (y : Float) → eq y y ≡ false → bits_of y ≡ 0x7FF8_0000_0000_0000
 unfolding eq bits_of is_nan
 is_nan_lem nan e = refl
 is_nan_lem (inf true) e = absurd (subst T e tt)
 is_nan_lem (inf false) e = absurd (subst T e tt)
 is_nan_lem (fin s m e') e = absurd (subst T (sym (same_level s (m * up e' * down e')) ∙ e) tt)
-
-nan_only : (y : Float) → is_nan y ≡ true → y ≡ nan
-unfolding is_nan
-nan_only nan e = refl
-nan_only (inf s) e = absurd (subst T (sym e) tt)
-nan_only (fin s m e') e = absurd (subst T (sym e) tt)
-
--- the real of a NaN's pattern
-pub nan_real : (b : ℕ) → 0x7FF0_0000_0000_0000 < b % 0x8000_0000_0000_0000 → real_of b ≡ nan
-unfolding real_of
-nan_real b h = nan_only (of_bits binary64 b) (sym (nan_bits_is binary64 b) ∙ nan_bits_above binary64 b ∙ lt-ltb 0x7FF0_0000_0000_0000 (b % 0x8000_0000_0000_0000) h)
-
--- any other pattern
-pub number_bits : (b : ℕ) → b % 0x8000_0000_0000_0000 ≤ 0x7FF0_0000_0000_0000 → T (not (nan_bits binary64 b))
-number_bits b h = rw (nan_bits_above binary64 b, le-ltb 0x7FF0_0000_0000_0000 (b % 0x8000_0000_0000_0000) h) tt

@@ -1,6 +1,6 @@
 pub mod Placed
 pub mod Numbers
+pub mod Little
 pub mod Floats
-pub mod Storing
 pub mod Decoding
 pub mod Encoding

@@ -5,7 +5,7 @@ use Prim.Native.Nat.{ℕ, zero, suc, ◌+◌, ◌*◌, ◌/◌, ◌%◌, ◌^◌
 use native.Mathlib.Nat.{pow-succ'}
 use native.Mathlib.Omega.{arith}
 use lib.ListN.{length, take, drop, get_or, length-drop}
-use lib.Seq.{length-take-le, take_at, drop_at, drop-cons, drop-drop, take-add, get_or-drop}
+use lib.Seq.{length-take-le, take_at, drop_at, get_or-drop}
 use Rattle.wire.specs.Wire.{low_bytes, bytes_of, number_of, load_of}
 
 pub length_low_bytes : (n v : ℕ) → length (low_bytes n v) ≡ n
@@ -42,30 +42,6 @@ pub number_of_lt : (l : List ℕ) → Bytes l → number_of l < 256 ^ length l
 unfolding number_of
 number_of_lt [] h = omega arith
 number_of_lt (b ∷ bs) h = omega (arith, h 0, pow-succ' 256 (length bs), number_of_lt bs (λ k. h (suc k)))
-
--- ---- loading
-
-pub four : (s : List ℕ) (at : ℕ) → at + 4 ≤ length s → take 4 (drop at s) ≡ get_or s at 0 ∷ get_or s (at + 1) 0 ∷ get_or s (at + 2) 0 ∷ get_or s (at + 3) 0 ∷ []
-four s at h =
-    let e₁ : at + 1 ≡ suc at = omega arith in
-    let e₂ : at + 2 ≡ suc (suc at) = omega arith in
-    let e₃ : at + 3 ≡ suc (suc (suc at)) = omega arith in
-    rw (e₁, e₂, e₃, drop-cons s at 0 (omega arith), drop-cons s (suc at) 0 (omega arith), drop-cons s (suc (suc at)) 0 (omega arith), drop-cons s (suc (suc (suc at))) 0 (omega arith))
-
-pub number_of_four : (a b c d : ℕ) → number_of (a ∷ b ∷ c ∷ d ∷ []) ≡ a + 256 * b + 65536 * (c + 256 * d)
-unfolding number_of
-number_of_four a b c d = omega arith
-
-number_of_append : (a b c d : ℕ) (l : List ℕ) → number_of (a ∷ b ∷ c ∷ d ∷ l) ≡ number_of (a ∷ b ∷ c ∷ d ∷ []) + 0x1_0000_0000 * number_of l
-unfolding number_of
-number_of_append a b c d l = omega arith
-
--- eight bytes are twice four
-pub load_of_halves : (s : List ℕ) (at : ℕ) → at + 8 ≤ length s → load_of s at ≡ number_of (take 4 (drop at s)) + 0x1_0000_0000 * number_of (take 4 (drop (at + 4) s))
-unfolding load_of
-load_of_halves s at h =
-    let two : take 8 (drop at s) ≡ take 4 (drop at s) ++ take 4 (drop (at + 4) s) = take-add 4 4 (drop at s) ∙ ap (λ (x : List ℕ). take 4 (drop at s) ++ take 4 x) (drop-drop 4 at s) in
-    rw (two, four s at (omega arith)) (number_of_append _ _ _ _ (take 4 (drop (at + 4) s)))
 
 -- what was stored is loaded
 pub load_stored : (s : List ℕ) (at v : ℕ) (rest : List ℕ) → at ≤ length s → v < 2 ^ 64 → load_of (take at s ++ (bytes_of v ++ rest)) at ≡ v

@@ -1,11 +1,11 @@
--- A row laid over a part of a list: a longer row in two steps, one element, and the loops that lay a row out.
-use mathlib.Core.Path.{◌≡◌, refl, sym, ap, ◌∙◌}
+-- A row laid over a part of a list: a longer row in two steps, and one element.
+use mathlib.Core.Path.{◌≡◌, sym, ap, ◌∙◌}
 use mathlib.Core.List.{List, [], ◌∷◌, ◌++◌, append_assoc}
 use Prim.Native.Nat.{ℕ, ◌+◌, ◌≤◌, ◌<◌}
 use native.Mathlib.Numerals.{add-one}
 use native.Mathlib.Omega.{arith}
-use lib.ListN.{length, take, drop, get_or, set, length-append, length-drop, length-set}
-use lib.Seq.{length-take-le, set_split, take_at, drop_at, drop-drop, paste, paste-suc, paste-zero, take-length}
+use lib.ListN.{length, take, drop, set, length-append, length-drop}
+use lib.Seq.{length-take-le, set_split, take_at, drop_at, drop-drop}
 use Rattle.wire.specs.Wire.{placed}
 
 module _ {A : Type 0} where
@@ -36,27 +36,3 @@ module _ {A : Type 0} where
   pub placed_one : (d : List A) (at : ℕ) (a : A) → at < length d → set d at a ≡ placed d at (a ∷ [])
   unfolding placed
   placed_one d at a h = rw add-one (set_split d at a h)
-
-  -- what a loop has laid out: the first k of the row
-  pub record Laid (d₀ : List A) (at : ℕ) (row : List A) (k : ℕ) (d : List A) : Type 0 where
-    pub most : k ≤ length row
-    pub is : d ≡ paste d₀ at row k
-    pub long : length d ≡ length d₀
-
-  pub laid_none : {d₀ : List A} {at : ℕ} {row : List A} → Laid d₀ at row 0 d₀
-  laid_none {d₀} {at} {row} = record { most = omega arith; is = paste-zero d₀ at row; long = refl }
-
-  pub laid_more : {d₀ : List A} {at : ℕ} {row : List A} {k : ℕ} {d : List A} (z : A) (x : A) → Laid d₀ at row k d → at + k < length d₀ → k < length row
-      → x ≡ get_or row k z → Laid d₀ at row (k + 1) (set d (at + k) x)
-  laid_more {d₀} {at} {row} {k} {d} z x c hd hr e =
-      record {
-        most = omega arith;
-        is = rw (e, c.is, add-one) (paste-suc d₀ at row k z hd hr);
-        long = length-set d (at + k) x ∙ c.long;
-      }
-
-  pub laid_done : {d₀ : List A} {at : ℕ} {row : List A} {k : ℕ} {d : List A} → Laid d₀ at row k d → length row ≤ k → d ≡ placed d₀ at row
-  unfolding placed
-  laid_done {d₀} {at} {row} {k} {d} c h =
-      let e : k ≡ length row = omega arith in
-      c.is ∙ ap (paste d₀ at row) e ∙ ap (λ (x : List A). take at d₀ ++ x ++ drop (at + length row) d₀) (take-length row) ∙ append_assoc (take at d₀) row (drop (at + length row) d₀)

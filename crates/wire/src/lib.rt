@@ -4,43 +4,20 @@
 ghost use Rattle.std.specs.Prelude.{◌≡◌, ◌++◌, ◌+◌, ◌*◌, ◌^◌, ◌≤◌, ◌<◌, length, take, drop};
 ghost use Rattle.wire.specs.Wire.{bits_of, real_of, bytes_of, number_of, load_of, reals, real_bytes};
 
+use std::num::{f64_from_bits_with_nan, f64_to_bits_with_nan};
+
 // The bits of a real; every NaN has those of 7FF8000000000000.
 pub fn bits_of(x: f64) -> u64
     ensures { result ≡ bits_of x }
 {
-    if x == x {
-        f64::to_bits(x)
-    } else {
-        0x7FF8_0000_0000_0000
-    }
+    f64_to_bits_with_nan(x)
 }
 
 // The real of a bit pattern.
 pub fn real_of(bits: u64) -> f64
     ensures { result ≡ real_of bits }
 {
-    let magnitude = bits % 0x8000_0000_0000_0000;
-    if 0x7FF0_0000_0000_0000 < magnitude {
-        0.0 / 0.0
-    } else {
-        f64::from_bits(bits)
-    }
-}
-
-fn wide(b: u8) -> u64
-    ensures { (result ≡ b) × (result < 256) }
-{
-    b as u64
-}
-
-// Four bytes as a number, the lowest first.
-fn load_half(s: &[u8], at: usize) -> u64
-    requires { at + 4 ≤ length s.now }
-    ensures { (result ≡ number_of (take 4 (drop at s.now))) × (result < 2 ^ 32) }
-{
-    let low = wide(s[at]) + 256 * wide(s[at + 1]);
-    let high = wide(s[at + 2]) + 256 * wide(s[at + 3]);
-    low + 65536 * high
+    f64_from_bits_with_nan(bits)
 }
 
 // Eight bytes as a number, the lowest first.
@@ -48,7 +25,7 @@ pub fn load(s: &[u8], at: usize) -> u64
     requires { at + 8 ≤ length s.now }
     ensures { result ≡ load_of s.now at }
 {
-    load_half(s, at) + 0x1_0000_0000 * load_half(s, at + 4)
+    u64::from_le_bytes(*s[at..].first_chunk::<8>().unwrap())
 }
 
 // The number as eight bytes, the lowest first.
@@ -56,29 +33,27 @@ pub fn store(s: &mut [u8], at: usize, v: u64)
     requires { at + 8 ≤ length s.old }
     ensures { s.new ≡ take at s.old ++ (bytes_of v ++ drop (at + 8) s.old) }
 {
-    let mut left = v;
-    for k in 0..8usize {
-        s[at + k] = (left % 256) as u8;
-        left = left / 256;
+    s[at..at + 8].copy_from_slice(&v.to_le_bytes());
+}
+
+// As many numbers of s as reals as there is room for them.
+pub fn decode(s: &[u8], into: &mut [f64])
+    requires { 8 * length into.old ≤ length s.now }
+    ensures { into.new ≡ reals s.now (length into.old) }
+{
+    // An index: what a zip with the chunks writes is known of no element afterwards.
+    for (k, x) in into.iter_mut().enumerate() {
+        *x = real_of(load(s, 8 * k));
     }
 }
 
-// The first `count` numbers of s as reals.
-pub fn decode(s: &[u8], into: &mut [f64], count: usize)
-    requires { (8 * count ≤ length s.now) × (count ≤ length into.old) }
-    ensures { into.new ≡ reals s.now count ++ drop count into.old }
+// The reals as bytes.
+pub fn encode(from: &[f64], s: &mut [u8])
+    requires { 8 * length from.now ≤ length s.old }
+    ensures { s.new ≡ real_bytes from.now ++ drop (8 * length from.now) s.old }
 {
-    for i in 0..count {
-        into[i] = real_of(load(s, 8 * i));
-    }
-}
-
-// The first `count` reals as bytes.
-pub fn encode(from: &[f64], s: &mut [u8], count: usize)
-    requires { (8 * count ≤ length s.old) × (count ≤ length from.now) }
-    ensures { s.new ≡ real_bytes (take count from.now) ++ drop (8 * count) s.old }
-{
-    for k in 0..count {
-        store(&mut *s, 8 * k, bits_of(from[k]));
+    // An index: what is written to chunks of s is known of no element afterwards.
+    for (k, x) in from.iter().enumerate() {
+        store(s, 8 * k, bits_of(*x));
     }
 }

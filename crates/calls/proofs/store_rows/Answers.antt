@@ -4,4 +4,4 @@ use Rattle.calls.proofs.Bytes.{rows_placed}
 use Rattle.calls.proofs.store_rows.Goals as goal
 
 pub returns : goal.returns
-returns c = c.encode.ensures ∙ rows_placed _ _ _ c.requires.0
+returns c = c.encode.ensures ∙ rows_placed _ _

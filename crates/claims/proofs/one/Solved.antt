@@ -1,15 +1,16 @@
 -- One local solve: which are refused, by the list of its tests.
+use Rattle.local.specs.declared.Solved.{Solved}
+use Rattle.std.specs.Prelude.{Err, Result}
 use mathlib.Core.Path.{◌≡◌, refl, subst}
 use mathlib.Core.Bool.{Bool, true, false, cond, not}
 use mathlib.Core.Logic.{inl, inr}
 use Prim.Native.Nat.{ℕ, ◌+◌}
+use mathlib.Core.List.{[]}
 use lib.Ieee.{Float, lt}
-use Rattle.claims.specs.Words.{zero64, Row, Matrix, Refusal, WeightSumNotPositive, Singular, InverseNotFinite, CoefficientNotFinite, Check, judge, Decides, GwrBandwidth, Setup, Data, local_bandwidth_distance, weights_at, equations_of, inverse_finite, coefficients_of, coefficients_finite, refused_with, from_inverse, eliminated_of, coefficients_under, fit_coefficients, Values, Outcome, outcome_of, solve_local, solve_location}
+use Rattle.std.specs.Prelude.{Ok, Err, Option, None, Some, is_none}
+use Rattle.claims.specs.Words.{zero64, Row, Matrix, Refusal, WeightSumNotPositive, Singular, InverseNotFinite, CoefficientNotFinite, Check, judge, Decides, GwrBandwidth, Setup, Data, local_bandwidth_distance, weights_at, equations_of, inverse_finite, coefficients_of, coefficients_finite, from_inverse, eliminated_of, coefficients_under, fit_coefficients, Values, solve_local, solve_location, Coefficients, from_eliminated, solved_by}
+use Rattle.std.specs.Option.{unwrap_or}
 use Rattle.claims.proofs.Laws.{AtLocation}
-use Rattle.checks.specs.declared.Check.TheVariants as check
-use Rattle.estimate.specs.declared.Estimated.{Estimated}
-use Rattle.estimate.specs.declared.Estimate.TheVariants as estimate
-use Rattle.local.specs.declared.Outcome.TheVariants as outcome
 use Rattle.claims.specs.DemandOne.{solve_tests, Found, Met}
 
 pub at_met : (r : Refusal) → AtLocation r → Met r
@@ -19,9 +20,9 @@ at_met r (inr (inr (inl e))) = inr (inr (inl e))
 at_met r (inr (inr (inr e))) = inr (inr (inr (inl e)))
 
 -- what the tests make of a solve
-abbrev As : Check → Outcome → Type 0
-As check.Pass o = Found o
-As (check.Refused r) o = o ≡ outcome.Refused r
+abbrev As : Check → Result Solved Refusal → Type 0
+As (Ok passed) o = Found o
+As (Err r) o = o ≡ Err r
 
 module _ (u : Setup) (d : Data) (b : GwrBandwidth) (i : ℕ) where
   abbrev s : Row × Float
@@ -33,40 +34,44 @@ module _ (u : Setup) (d : Data) (b : GwrBandwidth) (i : ℕ) where
   abbrev m : ℕ
   m = u.p + 1
 
-  abbrev e : Bool × Matrix
-  e = eliminated_of u d w
+  abbrev rhs : Row
+  rhs = (equations_of u d w).rhs
 
-  abbrev beta : Row
-  beta = coefficients_of e.1 (equations_of u d w).1 m
+  -- by the eliminated matrix, whether its inverse is finite, and whether the coefficients are
+  abbrev tested_further : Bool → Bool → Check
+  tested_further f g = cond (not f) (Err InverseNotFinite) (cond (not g) (Err CoefficientNotFinite) (Ok tt))
 
-  -- by whether the matrix is not singular, the inverse finite, and the coefficients finite
-  abbrev tested : Bool → Bool → Bool → Check
-  tested s f g = cond (not s) (check.Refused Singular) (cond (not f) (check.Refused InverseNotFinite) (cond (not g) (check.Refused CoefficientNotFinite) check.Pass))
+  abbrev tested : Option Matrix → Check
+  tested e =
+      let a = unwrap_or e [] in
+      cond (is_none e) (Err Singular) (tested_further (inverse_finite a m) (coefficients_finite (coefficients_of a rhs m) m))
 
-  abbrev estimated : Bool → Bool → Bool → Estimated
-  estimated s f g = cond s (cond f (cond g (record { estimate = estimate.Fitted; beta = beta }) (refused_with CoefficientNotFinite)) (refused_with InverseNotFinite)) (refused_with Singular)
+  two : (f g : Bool) (c : Coefficients) (v : Coefficients → Values)
+      → As (tested_further f g) (solved_by (cond f (cond g (Ok c) (Err CoefficientNotFinite)) (Err InverseNotFinite)) v)
+  unfolding solved_by
+  two true true c v = tt
+  two true false c v = refl
+  two false g c v = refl
 
-  three : (s f g : Bool) (v : Values) → As (tested s f g) (outcome_of (estimated s f g).estimate v)
-  unfolding outcome_of
-  three true true true v = tt
-  three true true false v = refl
-  three true false g v = refl
-  three false f g v = refl
+  three : (e : Option Matrix) (v : Coefficients → Values) → As (tested e) (solved_by (from_eliminated e rhs m) v)
+  unfolding solved_by from_eliminated from_inverse
+  three None v = refl
+  three (Some a) v = two (inverse_finite a m) (coefficients_finite (coefficients_of a rhs m) m) _ v
 
   -- and before these by whether the weights sum to more than zero
-  four : (z s f g : Bool) (a zeros : Matrix) (v : Values)
-      → As (cond (not z) (check.Refused WeightSumNotPositive) (tested s f g)) (outcome_of (cond {A = Estimated × Matrix} z (estimated s f g, a) (refused_with WeightSumNotPositive, zeros)).0.estimate v)
-  unfolding outcome_of
-  four true s f g a zeros v = three s f g v
-  four false s f g a zeros v = refl
+  four : (z : Bool) (e : Option Matrix) (v : Coefficients → Values)
+      → As (cond (not z) (Err WeightSumNotPositive) (tested e)) (solved_by (cond z (from_eliminated e rhs m) (Err WeightSumNotPositive)) v)
+  unfolding solved_by
+  four true e v = three e v
+  four false e v = refl
 
-  solve_as : As (judge (solve_tests u d b i)) (solve_location u d b i).outcome
-  unfolding judge solve_location solve_local fit_coefficients coefficients_under from_inverse
-  solve_as = four (lt zero64 s.1) e.0 (inverse_finite e.1 m) (coefficients_finite beta m) _ _ _
+  solve_as : As (judge (solve_tests u d b i)) (solve_location u d b i)
+  unfolding judge solve_location solve_local fit_coefficients coefficients_under
+  solve_as = four (lt zero64 s.1) (eliminated_of u d w) _
 
-  pub solve_decides : Decides (solve_tests u d b i) (λ (r : Refusal). (solve_location u d b i).outcome ≡ outcome.Refused r) (Found (solve_location u d b i).outcome)
+  pub solve_decides : Decides (solve_tests u d b i) (λ (r : Refusal). solve_location u d b i ≡ Err r) (Found (solve_location u d b i))
   solve_decides =
       record {
-        refused = λ r h. subst (λ (c : Check). As c (solve_location u d b i).outcome) h solve_as;
-        served = λ h. subst (λ (c : Check). As c (solve_location u d b i).outcome) h solve_as;
+        refused = λ r h. subst (λ (c : Check). As c (solve_location u d b i)) h solve_as;
+        served = λ h. subst (λ (c : Check). As c (solve_location u d b i)) h solve_as;
       }

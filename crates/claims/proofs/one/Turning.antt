@@ -1,4 +1,6 @@
 -- A turn of any record: what one that is not refused answers and leaves alone.
+use Rattle.local.specs.declared.Solved.{Solved}
+use Rattle.std.specs.Prelude.{Ok, Err, Result}
 use mathlib.Core.Path.{◌≡◌, refl, sym, subst⁻¹}
 use mathlib.Core.Bool.{false}
 use mathlib.Core.List.{List}
@@ -9,10 +11,8 @@ use lib.Dec.{eqb}
 use lib.ListN.{length}
 use lib.Ieee.{Float}
 use lib.Ieee.Scale.{finite}
-use Rattle.claims.specs.Words.{rounded, from_count, root, Refusal, NoneOf, Decides, Setup, Data, Outcome, Criterion, deviation, corrected_aic, score_of, narrow_of, add_values, Stage, First, Second, Round, Final, Ended, Job, is_ended, is_last_round, close_at, close_job, pass_job, solved_job, after_outcome, solve_of, step_job, step_of, is_over, run, turn_tests, answer_at, run_of, turn_of}
+use Rattle.claims.specs.Words.{rounded, from_count, root, Refusal, NoneOf, Decides, Setup, Data, deviation, corrected_aic, score_of, narrow_of, add_values, Stage, First, Second, Round, Final, Ended, Job, is_ended, is_last_round, close_at, close_job, pass_job, solved_job, after_outcome, solve_of, step_job, step_of, is_over, run, turn_tests, answer_at, run_of, turn_of}
 use Rattle.claims.proofs.Laws.{either, never, none_head, OutcomeAt, location_at, Holds, sound_held, holds_step, fit_means, run_few, run_keeps}
-use Rattle.local.specs.declared.Outcome.TheVariants as outcome
-use Rattle.criterion.specs.declared.Criterion.TheVariants as criterion
 use Rattle.job.specs.declared.Answer.TheVariants as answer
 use Rattle.job.proofs.Turning as turns
 use Rattle.claims.specs.Turns.{JobState}
@@ -23,9 +23,9 @@ use Rattle.claims.proofs.one.Solved.{at_met}
 
 -- ---- the job ends with 14 to 17 only
 
-abbrev CriterionMet : Criterion → Type 0
-CriterionMet (criterion.Value v) = Unit {0}
-CriterionMet (criterion.Refused r) = Met r
+abbrev CriterionMet : Result Float Refusal → Type 0
+CriterionMet (Ok v) = Unit {0}
+CriterionMet (Err r) = Met r
 
 abbrev StageMet : Stage → Type 0
 StageMet First = Unit {0}
@@ -38,23 +38,23 @@ aic_met : (u : Setup) (q t : Float) → CriterionMet (corrected_aic u q t)
 unfolding corrected_aic
 aic_met u q t = either CriterionMet (finite (deviation rounded root (from_count u.n) q)) _ _ tt (inr (inr (inr (inr refl))))
 
-close_met : (x : Stage) (j : Job) (c : Criterion) → CriterionMet c → StageMet j.stage → StageMet (close_at x j c).stage
+close_met : (x : Stage) (j : Job) (c : Result Float Refusal) → CriterionMet c → StageMet j.stage → StageMet (close_at x j c).stage
 close_met First j c m h = tt
 close_met Second j c m h = tt
 close_met Round j c m h = either (λ (k : Job). StageMet k.stage) (is_last_round j.trials.made (narrow_of j.trials.bracket (score_of c))) _ _ tt tt
 close_met Final j c m h = m
 close_met (Ended x) j c m h = h
 
-after_met : (j : Job) (o : Outcome) → OutcomeAt o → StageMet j.stage → StageMet (after_outcome j o).stage
+after_met : (j : Job) (o : Result Solved Refusal) → OutcomeAt o → StageMet j.stage → StageMet (after_outcome j o).stage
 unfolding pass_job close_job
-after_met j (outcome.Found v) l h =
-    let w = add_values j.sweep v in
+after_met j (Ok v) l h =
+    let w = add_values j.sweep v.values in
     either (λ (k : Job). StageMet k.stage) (eqb (w.location + 1) j.setup.n) _ _ (close_met j.stage (solved_job j w) _ (aic_met _ _ _) h) h
-after_met j (outcome.Refused r) l h = close_met j.stage (solved_job j j.sweep) (criterion.Refused r) (at_met r l) h
+after_met j (Err r) l h = close_met j.stage (solved_job j j.sweep) (Err r) (at_met r l) h
 
 step_met : (d : Data) (j : Job) → StageMet j.stage → StageMet (step_job d j).stage
 unfolding step_job
-step_met d j h = after_met j (solve_of d j).outcome (location_at j.setup d j.bandwidth j.sweep.location) h
+step_met d j h = after_met j (solve_of d j) (location_at j.setup d j.bandwidth j.sweep.location) h
 
 live_met : (x : Stage) → is_ended x ≡ false → StageMet x
 live_met First h = tt
@@ -68,8 +68,8 @@ told First j h = tt
 told Second j h = tt
 told Round j h = tt
 told Final j h = tt
-told (Ended (criterion.Value v)) j h = tt
-told (Ended (criterion.Refused r)) j h = (h, refl)
+told (Ended (Ok v)) j h = tt
+told (Ended (Err r)) j h = (h, refl)
 
 -- ---- a turn
 

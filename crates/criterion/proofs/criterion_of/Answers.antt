@@ -1,27 +1,16 @@
 -- `criterion::criterion_of` meets its contract: its test is the definition's.
 use Rattle.std.proofs.Common.{rules}
+use Rattle.real.proofs.Std.{infinity_same}
 use Rattle.criterion.specs.Published.{freedom}
 use Rattle.criterion.specs.Aicc.{criterion_of}
 use Rattle.criterion.proofs.criterion_of.Goals as goal
 
-pub is_exhausted-requires : goal.is_exhausted-requires
-unfolding criterion_of freedom
-is_exhausted-requires c = search rules
-
-pub infinity-requires : goal.infinity-requires
-unfolding criterion_of freedom
-infinity-requires c = search rules
-
 pub returns-then-is_exhausted : goal.returns-then-is_exhausted
 unfolding criterion_of freedom
-returns-then-is_exhausted c = rw (c.infinity.ensures, ← c.is_exhausted.ensures, c.if-is_exhausted.true)
-
-pub floored-requires : goal.floored-requires
-unfolding criterion_of freedom
-floored-requires c = search rules
+returns-then-is_exhausted c = rw (infinity_same, ← c.is_exhausted.ensures, c.if-is_exhausted.true)
 
 pub aicc_formula-requires : goal.aicc_formula-requires
-unfolding criterion_of freedom
+unfolding freedom
 aicc_formula-requires c = search rules
 
 pub returns : goal.returns

@@ -1,45 +1,22 @@
 -- `elementary::ln` meets its contract: its tests are the definition's. A number below infinity is no NaN, m's pattern has the exponent's field 1023, and e is an exact difference.
-use Rattle.std.proofs.Common.{◌≡◌, ℕ, ◌/◌, ◌^◌, ◌<◌, true, not, T, pos, sym, ap, ◌∙◌, subst, arith, lit≤}
-use lib.Ieee.{Float, nan, inf, fin, binary64, lt, sub, div, minus, of_bits, of_int, to_bits, is_nan}
+use Rattle.std.proofs.Common.{◌≡◌, ℕ, ◌/◌, ◌^◌, ◌<◌, T, pos, sym, ap, ◌∙◌, subst, arith, lit≤}
+use lib.Ieee.{Float, binary64, sub, minus, of_bits, of_int, to_bits}
 use lib.Ieee.Bits.{to_bits-lt}
-use Rattle.real.proofs.Values.{no_nan}
 use Rattle.elementary.specs.Ln.{lnv, ln_parts, mantissa, exponent}
 use Rattle.elementary.proofs.WholeDifference.{whole_difference}
 use Rattle.elementary.proofs.ln.Goals as goal
-use Rattle.elementary.proofs.ln.Goals.{then-v+else-v-infinity, else-v}
-
-number : (v : Float) (top : Float) → lt v top ≡ true → T (not (is_nan v))
-unfolding lt is_nan
-number nan top e = subst T (sym e) tt
-number (inf s) top e = tt
-number (fin s m e') top e = tt
 
 -- e, the exact difference
-e_is : (b : ℕ) → b < 2 ^ 64 → sub binary64 (of_int binary64 (pos (b / 2 ^ 52))) (of_bits binary64 0x408F_F800_0000_0000) ≡ of_int binary64 (minus (b / 2 ^ 52) 1023)
+e_is : (b : ℕ) (e : Float) → b < 2 ^ 64 → e ≡ of_int binary64 (pos (b / 2 ^ 52)) → sub binary64 e (of_bits binary64 0x408F_F800_0000_0000) ≡ of_int binary64 (minus (b / 2 ^ 52) 1023)
 unfolding of_bits of_int
-e_is b h = whole_difference (b / 2 ^ 52) 1023 (omega arith) (lit≤ tt)
+e_is b e h k = rw k (whole_difference (b / 2 ^ 52) 1023 (omega arith) (lit≤ tt))
 
-pub float_to_bits-b : goal.float_to_bits-b
-float_to_bits-b c = number _ _ c.if-v-infinity.true
+pub overflow_cast-b : goal.overflow_cast-b
+overflow_cast-b c = omega (arith, (to_bits-lt binary64 c.args.v (subst T (sym c.well_formed.0.1) tt)))
 
-pub float_from_bits-m : goal.float_from_bits-m
-float_from_bits-m c = no_nan _ (omega arith)
-
-pub overflow_cast-e : goal.overflow_cast-e
-overflow_cast-e c = omega (arith, (to_bits-lt binary64 c.args.v (subst T (sym c.well_formed.0.1) tt)))
-
-pub returns-then-v-infinity : goal.returns-then-v-infinity
-unfolding lnv mantissa exponent of_bits
-returns-then-v-infinity c =
-    let b = to_bits binary64 c.args.v in
+pub returns-then-v-2 : goal.returns-then-v-2
+unfolding lnv mantissa exponent of_bits of_int
+returns-then-v-2 c =
     c.ln_parts.ensures
-    ∙ ap (λ (e : Float). ln_parts (mantissa c.args.v) e) (e_is b (to_bits-lt binary64 c.args.v (subst T (sym c.well_formed.0.1) tt)))
-    ∙ sym (rw (c.if-v.true, rw c.infinity.ensures at c.if-v-infinity.true))
-
-pub returns : goal.returns
-unfolding lnv of_bits div
-returns c =
-    elim c.if-v.branch [
-      | then-v+else-v-infinity w ↦ sym (rw (w.if-v.true, rw w.infinity.ensures at w.if-v-infinity.false))
-      | else-v w ↦ sym (rw w.if-v.false)
-    ]
+    ∙ ap (λ (e : Float). ln_parts (mantissa c.args.v) e) (e_is (to_bits binary64 c.args.v) _ (to_bits-lt binary64 c.args.v (subst T (sym c.well_formed.0.1) tt)) c.from-e.ensures)
+    ∙ sym (rw (c.if-v.true, c.if-v-2.true))

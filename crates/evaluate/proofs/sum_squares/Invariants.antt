@@ -1,12 +1,7 @@
 -- `evaluate::sum_squares` meets its contract: the loop's sums are the fold of `squares_step` up to j; an observation that weighs nothing is passed by.
-use Prim.Native.Nat.{◌-◌}
 use Rattle.real.proofs.Fold.{Range}
-use Rattle.setup.specs.Data.{data_of}
 use Rattle.evaluate.specs.Evaluate.{squares_step}
 use Rattle.evaluate.proofs.sum_squares.Given as goal
 
 abbrev pub invariant-loop-j : goal.invariant-loop-j
-invariant-loop-j l = Range (squares_step l.u (data_of l.coords l.x l.y) l.w l.beta l.mean) l.initial.s 0 l.u.n l.j l.s
-
-abbrev pub decreases-loop-j : goal.decreases-loop-j
-decreases-loop-j l = l.u.n - l.j
+invariant-loop-j l = Range (squares_step l.problem.setup l.problem.columns l.w l.beta l.mean) l.initial.s 0 l.problem.setup.n l.j l.s

@@ -1,8 +1,12 @@
 -- `evaluate::values_at` meets its contract: each value is its definition.
+use Rattle.evaluate.proofs.Sums.{fitted_at}
 use Rattle.evaluate.specs.Evaluate.{values_at}
 use Rattle.evaluate.proofs.values_at.Goals as goal
 
 pub returns : goal.returns
 unfolding values_at
 returns c =
-    rw (c.hat_diagonal.ensures, c.local_r_squared.ensures, c.fitted-predicted.ensures, c.design_row-row.ensures)
+    let q = c.args.problem.now in
+    let own = rw (c.predictors-x.ensures.predictors, c.setup-u.ensures.setup) at c.predictors_of.ensures in
+    let f = fitted_at q.columns.predictors q.setup.n q.setup.p c.args.i c.setup-u.ensures.shaped.rows c.requires own _ c.fitted-predicted.ensures in
+    rw (c.hat_diagonal.ensures, c.local_r_squared.ensures, f, c.design_row-row.ensures, c.responses-y.ensures, c.setup-u.ensures.setup)

@@ -4,17 +4,17 @@ use Rattle.sweep.proofs.Sweeps.{made_few}
 use Rattle.gwr.proofs.Fits.{final_is, solves_made}
 use Rattle.gwr.proofs.final_of.Goals as goal
 
-pub solves-solves-requires : goal.solves-solves-requires
-solves-solves-requires c =
-    let few = c.requires.shaped.sized.few in
+pub solves-requires : goal.solves-requires
+solves-requires c =
+    let few = c.setup-u.ensures.shaped.sized.few in
     let h = made_few _ _ _ _ _ _ _ c.fit_all_locations-s.ensures in
     omega (arith, h.0, few)
 
 pub overflow_add-before : goal.overflow_add-before
 overflow_add-before c =
-    let h = solves_made _ _ _ _ _ _ c.requires.shaped.sized.few c.fit_all_locations-s.ensures _ c.solves-solves.ensures in
+    let h = solves_made _ _ _ _ _ _ c.setup-u.ensures.shaped.sized.few c.fit_all_locations-s.ensures _ c.solves.ensures in
     omega (arith, h, c.requires.room.1)
 
 pub returns : goal.returns
 returns c =
-    final_is _ _ _ _ _ _ _ _ _ _ c.fit_all_locations-s.ensures c.ending-ending.ensures c.solves-solves.ensures c.finish_of-finish.ensures
+    final_is _ _ _ _ _ _ _ _ _ _ c.fit_all_locations-s.ensures (rw c.setup-u.ensures.setup at c.ending.ensures) c.solves.ensures c.finish_of.ensures

@@ -1,6 +1,4 @@
 -- `input::check_shape` meets its contract: its tests are the list's, in order.
-use native.Mathlib.Nat.{mul-le-mul}
-use native.Mathlib.Omega.{arith}
 use Rattle.checks.proofs.Tests.{tests}
 use Rattle.input.specs.Checks.{shape_tests}
 use Rattle.input.proofs.check_shape.Goals as goal
@@ -20,10 +18,6 @@ returns-then-n-gt512 c = search tests
 pub returns-then-p-gt7 : goal.returns-then-p-gt7
 unfolding shape_tests
 returns-then-p-gt7 c = search tests
-
-pub overflow_mul-n : goal.overflow_mul-n
-overflow_mul-n c =
-    let few = c.if-n-gt512.false in let narrow = c.if-p-gt7.false in omega (arith, mul-le-mul few narrow)
 
 pub returns-then-x-n : goal.returns-then-x-n
 unfolding shape_tests

@@ -4,4 +4,4 @@ use Rattle.input.proofs.nothing_between.Goals as goal
 
 pub returns : goal.returns
 unfolding nothing_between
-returns c = rw (c.both.ensures, c.usable_distance.ensures, c.seeks_distance.ensures)
+returns c = rw (c.usable_distance.ensures, c.seeks_distance.ensures)

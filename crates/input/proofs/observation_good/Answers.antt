@@ -1,7 +1,6 @@
 -- `input::observation_good` meets its contract.
-use mathlib.Core.Path.{◌∙◌}
 use Rattle.input.proofs.Observations.{good_is}
 use Rattle.input.proofs.observation_good.Goals as goal
 
 pub returns : goal.returns
-returns c = c.both.ensures ∙ good_is _ _ _ _
+returns c = good_is _ _ _ _

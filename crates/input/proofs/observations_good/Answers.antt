@@ -9,7 +9,7 @@ loop-i-init c = walked_none
 
 pub loop-i-preserved : goal.loop-i-preserved
 loop-i-preserved c =
-    walked_more c.loop-i.invariant (search rules) (search rules) (search rules) (rw (c.both-good.ensures, c.observation_good-here.ensures) refl)
+    walked_more c.loop-i.invariant (search rules) (search rules) (search rules) (rw c.observation_good-here.ensures refl)
 
 pub returns : goal.returns
 returns c = walked_all c.loop-i.invariant (search rules) (search rules) (search rules)

@@ -1,11 +1,6 @@
 -- `input::observations_good` meets its contract.
-use Prim.Native.Nat.{◌-◌}
-use lib.ListN.{length}
 use Rattle.input.proofs.Observations.{Walked}
 use Rattle.input.proofs.observations_good.Given as goal
 
 abbrev pub invariant-loop-i : goal.invariant-loop-i
 invariant-loop-i l = Walked l.coords l.y l.trust l.i l.good
-
-abbrev pub decreases-loop-i : goal.decreases-loop-i
-decreases-loop-i l = length l.y - l.i

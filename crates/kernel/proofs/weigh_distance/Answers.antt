@@ -1,7 +1,7 @@
 -- `kernel::weigh_distance` meets its contract.
 use borrow.Author.Rules.{rules}
 use mathlib.Core.Path.{sym, ap, ◌∙◌}
-use Rattle.kernel.specs.declared.Weighed.TheVariants.{Weight}
+use Rattle.std.specs.Prelude.{Some}
 use Rattle.kernel.specs.Weight.{weighed}
 use Rattle.kernel.proofs.weigh_distance.Goals as goal
 
@@ -11,7 +11,7 @@ weight-requires c = search rules
 
 pub returns-then-d : goal.returns-then-d
 unfolding weighed
-returns-then-d c = ap Weight c.weight.ensures ∙ sym (rw c.if-d.true)
+returns-then-d c = ap Some c.weight.ensures ∙ sym (rw c.if-d.true)
 
 pub returns-else-d : goal.returns-else-d
 unfolding weighed

@@ -13,15 +13,14 @@ slice_bounds-fit_bytes-end c = part_long _ _ _ refl (omega arith)
 
 pub print_answer-requires : goal.print_answer-requires
 print_answer-requires c =
-    let a = fit_answered _ _ _ _ _ _ _ _ _ _ c.fit_bytes-number.ensures in
+    let a = fit_answered _ _ _ _ _ _ _ _ _ _ c.fit_bytes-answer.ensures in
     let m : c.args.h.p + 4 ≤ 11 = omega arith in
     record {
       sizes = (
-        omega (arith, a.number),
         search rules,
         m,
-        omega (arith, mul-le-mul c.requires.whole.0 m, c.fit_bytes-number.auto.out),
-        omega (arith, c.fit_bytes-number.auto.summary),
+        omega (arith, mul-le-mul c.requires.whole.0 m, c.fit_bytes-answer.auto.out),
+        omega (arith, c.fit_bytes-answer.auto.summary),
         search rules,
       );
       few_solves = a.solves;
@@ -32,4 +31,4 @@ returns c =
     let h = c.args.h in
     let parts = c.args.parts.now in
     line_is _ _ _ _ _ c.print_answer.ensures
-    (whole_text_lem h parts _ _ _ _ _ (part_is (16 * h.n) (8 * (h.n * h.p)) parts) (part_is (16 * h.n + 8 * (h.n * h.p)) (8 * h.n) parts) c.fit_bytes-number.ensures)
+    (whole_text_lem h parts _ _ _ _ _ (part_is (16 * h.n) (8 * (h.n * h.p)) parts) (part_is (16 * h.n + 8 * (h.n * h.p)) (8 * h.n) parts) c.fit_bytes-answer.ensures)

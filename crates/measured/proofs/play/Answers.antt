@@ -15,7 +15,7 @@ loop-i-init c = (none (search rules), refl)
 pub loop-i-preserved : goal.loop-i-preserved
 unfolding turn_by play_of
 loop-i-preserved c =
-    (more c.loop-i.invariant.0 (search rules) (ap (λ (z : Turned × List Float). (z.0.job, z.1)) c.turn-t.ensures), search rules)
+    (more c.loop-i.invariant.0 (search rules) (ap (λ (z : Turned × List Float). (z.0.job, z.1)) c.turn.ensures), search rules)
 
 pub returns : goal.returns
 unfolding turn_by play_of

@@ -3,8 +3,8 @@ use borrow.Author.Rules.{rules}
 use Rattle.measured.proofs.Judging.{choice_unknown, choice_known}
 use Rattle.measured.proofs.zescolumba_fit_judged.Goals as goal
 
-pub returns-in-Unknown : goal.returns-in-Unknown
-returns-in-Unknown c = search (rules, choice_unknown)
+pub returns-in-Err : goal.returns-in-Err
+returns-in-Err c = search (rules, choice_unknown)
 
-pub returns-in-Known : goal.returns-in-Known
-returns-in-Known c = search (rules, choice_known)
+pub returns-in-Ok : goal.returns-in-Ok
+returns-in-Ok c = search (rules, choice_known)

@@ -3,11 +3,11 @@ use Rattle.std.proofs.Common.{rules}
 use Rattle.real.proofs.Finite.{times_none, times_more, times_done}
 use Rattle.real.proofs.rest_finite.Goals as goal
 
-pub loop-i-init : goal.loop-i-init
-loop-i-init c = times_none (search rules)
+pub loop-x-init : goal.loop-x-init
+loop-x-init c = times_none
 
-pub loop-i-preserved : goal.loop-i-preserved
-loop-i-preserved c = times_more c.loop-i.invariant (search rules)
+pub loop-x-preserved : goal.loop-x-preserved
+loop-x-preserved c = times_more c.loop-x.invariant (search rules)
 
 pub returns : goal.returns
-returns c = times_done c.loop-i.invariant (search rules)
+returns c = times_done c.loop-x.invariant (search rules)

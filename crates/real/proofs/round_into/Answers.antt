@@ -4,18 +4,6 @@ use Rattle.real.specs.Reals.{round_into}
 use Rattle.real.proofs.Rounding.{round_none, round_many}
 use Rattle.real.proofs.round_into.Goals as goal
 
-pub rounded-requires : goal.rounded-requires
-unfolding round_into
-rounded-requires c = search rules
-
-pub clamp_count-requires : goal.clamp_count-requires
-unfolding round_into
-clamp_count-requires c = search rules
-
-pub returns-then-x-2 : goal.returns-then-x-2
-unfolding round_into
-returns-then-x-2 c = rw (← c.rounded.ensures) c.clamp_count.ensures
-
 pub returns-then-x : goal.returns-then-x
 unfolding round_into
 returns-then-x c =

@@ -1,10 +1,12 @@
--- `request::options_of`: an unknown kernel leaves the options unknown.
-use mathlib.Core.Path.{refl, sym, ◌∙◌}
-use Rattle.request.proofs.Options.{options_are}
+-- `request::options_of`: a kernel's number that is refused, or the options of the kernel's kinds.
+use mathlib.Core.Path.{sym, ◌∙◌}
+use Rattle.checks.proofs.Tests.{handed_on}
+use Rattle.request.proofs.Options.{kernel_named, kernel_unnamed}
 use Rattle.request.proofs.options_of.Goals as goal
 
-pub returns-in-Known : goal.returns-in-Known
-returns-in-Known c = options_are _ _ _ _ _ (sym c.kernel_of-known.ensures ∙ c.in-Known.is) c.kind_of.ensures
+pub returns-in_err-kernel : goal.returns-in_err-kernel
+returns-in_err-kernel c =
+    handed_on c.from_residual.ensures ∙ kernel_unnamed _ _ _ (sym c.try_from.ensures ∙ c.in_err-kernel.was)
 
-pub returns-in-Unknown : goal.returns-in-Unknown
-returns-in-Unknown c = options_are _ _ _ _ _ (sym c.kernel_of-known.ensures ∙ c.in-Unknown.is) refl
+pub returns : goal.returns
+returns c = c.kind_of.ensures ∙ kernel_named _ _ _ (sym c.try_from.ensures ∙ c.in_ok-kernel.was)

@@ -11,10 +11,6 @@ use Rattle.root.proofs.Squares.{held}
 use Rattle.root.proofs.Patterns.{pattern, assembled, the_root_units}
 use Rattle.root.proofs.positive.Goals as goal
 
-pub float_to_bits-b : goal.float_to_bits-b
-float_to_bits-b c =
-    (pattern c.args.x (subst T (sym c.well_formed.0.1) tt) c.requires.above_zero c.requires.below_infinity).number
-
 pub split-p-requires : goal.split-p-requires
 split-p-requires c =
     record { not_zero = (pattern c.args.x (subst T (sym c.well_formed.0.1) tt) c.requires.above_zero c.requires.below_infinity).above; finite_pattern = (pattern c.args.x (subst T (sym c.well_formed.0.1) tt) c.requires.above_zero c.requires.below_infinity).below }

@@ -6,31 +6,12 @@ use Rattle.root.specs.Parts.{units_of_bits}
 use Rattle.root.proofs.Powers.{subnormal, parted, normal_size, normal_value}
 use Rattle.root.proofs.split.Goals as goal
 
-pub overflow_sub-z : goal.overflow_sub-z
-overflow_sub-z c = (subnormal c.args.b c.requires.not_zero (omega arith)).least
-
-pub overflow_cast-z : goal.overflow_cast-z
-overflow_cast-z c = omega (arith, (subnormal c.args.b c.requires.not_zero (omega arith)).most)
-
-pub overflow_shl-b : goal.overflow_shl-b
-overflow_shl-b c = omega (arith, (subnormal c.args.b c.requires.not_zero (omega arith)).most)
-
-pub overflow_cast-z-then-field-eq0 : goal.overflow_cast-z-then-field-eq0
-overflow_cast-z-then-field-eq0 c = omega (arith, (subnormal c.args.b c.requires.not_zero (omega arith)).most)
-
-pub overflow_sub-z-then-field-eq0 : goal.overflow_sub-z-then-field-eq0
-overflow_sub-z-then-field-eq0 c = omega (arith, (subnormal c.args.b c.requires.not_zero (omega arith)).most)
-
-pub halved-requires : goal.halved-requires
-halved-requires c =
-    (omega arith, (subnormal c.args.b c.requires.not_zero (omega arith)).low, (subnormal c.args.b c.requires.not_zero (omega arith)).high)
-
 pub returns-then-field-eq0 : goal.returns-then-field-eq0
 unfolding units_of_bits
 returns-then-field-eq0 c =
     let b = c.args.b in
     let z = subnormal c.args.b c.requires.not_zero (omega arith) in
-    rw (eq-eqb (b / 2 ^ 52) 0 c.if-field-eq0.true) (parted b z.long z.value c.halved.ensures)
+    rw (eq-eqb (b / 2 ^ 52) 0 c.if-field-eq0.true) (parted b z.long z.value (rw c.from.ensures at c.halved.ensures))
 
 pub returns-else-field-eq0 : goal.returns-else-field-eq0
 unfolding units_of_bits

@@ -1,13 +1,9 @@
 -- `root::sqrt_near` meets its contract: its tests are the definition's.
 use mathlib.Core.Path.{sym, ◌∙◌}
-use lib.Ieee.{of_bits, div, nan_bits}
+use lib.Ieee.{of_bits, div}
 use Rattle.root.specs.Root.{root}
 use Rattle.root.proofs.Nearest.{root_is, root_end}
 use Rattle.root.proofs.sqrt_near.Goals as goal
-
-pub float_from_bits-t-4 : goal.float_from_bits-t-4
-unfolding nan_bits
-float_from_bits-t-4 c = tt
 
 pub positive-requires : goal.positive-requires
 unfolding of_bits

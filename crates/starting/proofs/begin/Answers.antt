@@ -1,17 +1,22 @@
 -- `starting::begin`: by what is said of the input; an accepted one has sizes in range.
-use mathlib.Core.Path.{sym, ◌∙◌}
+use mathlib.Core.Path.{refl, sym, ap, ◌∙◌}
+use Rattle.std.specs.Prelude.{Ok}
+use Rattle.checks.proofs.Tests.{handed_on}
+use Rattle.setup.specs.Data.{trusted_data}
 use Rattle.plan.proofs.Planned.{accept_planned}
 use Rattle.starting.proofs.Begins.{begin_is}
 use Rattle.starting.proofs.begin.Goals as goal
 
-pub start-job-requires : goal.start-job-requires
-start-job-requires c =
-    (accept_planned _ _ _ _ (sym c.accept-accepted.ensures ∙ c.in-Planned.is)).accepted.shaped.sized
+pub start-requires : goal.start-requires
+start-requires c =
+    let accepted = rw (← c.columns.view_is) at c.accept.ensures in
+    (accept_planned (trusted_data _ _ _ _) _ _ _ (sym accepted ∙ c.in_ok-plan.was)).accepted.shaped.sized
 
-pub returns-in-Refused : goal.returns-in-Refused
-returns-in-Refused c =
-    begin_is _ _ _ _ _ _ (sym c.accept-accepted.ensures ∙ c.in-Refused.is) (rw c.blank-job.ensures)
+pub returns-in_err-plan : goal.returns-in_err-plan
+returns-in_err-plan c =
+    handed_on c.from_residual.ensures ∙ begin_is _ _ _ _ _ _ (sym c.accept.ensures ∙ c.in_err-plan.was) refl
 
-pub returns-in-Planned : goal.returns-in-Planned
-returns-in-Planned c =
-    begin_is _ _ _ _ _ _ (sym c.accept-accepted.ensures ∙ c.in-Planned.is) (rw c.start-job.ensures)
+pub returns : goal.returns
+returns c =
+    let accepted = rw (← c.columns.view_is) at c.accept.ensures in
+    rw (← c.columns.view_is) (begin_is _ _ _ _ _ _ (sym accepted ∙ c.in_ok-plan.was) (ap Ok c.start.ensures))

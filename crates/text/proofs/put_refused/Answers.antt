@@ -1,17 +1,15 @@
--- `text::put_refused` meets its contract.
+-- `text::put_refused`: the line of a refusal.
+use borrow.Author.Rules.{rules}
 use native.Mathlib.Omega.{arith}
-use Rattle.text.proofs.Parts.{refused_line_lem}
+use Rattle.text.proofs.Lines.{text_is}
+use Rattle.text.proofs.Parts.{count_end, refused_line_lem}
 use Rattle.text.proofs.put_refused.Goals as goal
 
-pub bounds-text-end : goal.bounds-text-end
-bounds-text-end c = (refused_line_lem _ c.put_word-named.ensures c.put_count-end.ensures c.requires.0).1
-
-pub overflow_add-result : goal.overflow_add-result
-overflow_add-result c =
-    let p = refused_line_lem _ c.put_word-named.ensures c.put_count-end.ensures c.requires.0 in omega (arith, p.1)
-
-pub shape_of-text : goal.shape_of-text
-shape_of-text c = (refused_line_lem _ c.put_word-named.ensures c.put_count-end.ensures c.requires.0).0.long
+pub byte-requires : goal.byte-requires
+byte-requires c =
+    let w = c.word.ensures.written in let n = c.count.ensures.written in omega (arith, w.stop, w.long, n.long, count_end _ n)
 
 pub returns : goal.returns
-returns c = (refused_line_lem _ c.put_word-named.ensures c.put_count-end.ensures c.requires.0).0
+returns c =
+    let line = refused_line_lem _ c.word.ensures.written c.count.ensures.written c.byte.ensures.written c.requires.0 in
+    text_is {d = c.byte.new.self.bytes.now} (search rules) (rw (← c.from.ensures) line)

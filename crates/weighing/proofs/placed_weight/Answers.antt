@@ -6,10 +6,10 @@ use Rattle.weighing.proofs.Judged.{front_placed}
 use Rattle.weighing.proofs.Judged.{both, placed_is}
 use Rattle.weighing.proofs.placed_weight.Goals as goal
 
-pub returns-in-Weight : goal.returns-in-Weight
-returns-in-Weight c =
-    placed_is _ _ _ _ c.in-Weight.is (both refl (c.store.ensures ∙ front_placed _ _ ∙ ap (λ (v : ℕ). placed c.args.out.now 0 (bytes_of v)) c.bits_of.ensures))
+pub returns-in-Some : goal.returns-in-Some
+returns-in-Some c =
+    placed_is _ _ _ _ c.in-Some.is (both refl (c.store.ensures ∙ front_placed _ _ ∙ ap (λ (v : ℕ). placed c.args.out.now 0 (bytes_of v)) c.bits_of.ensures))
 
-pub returns-in-BadDistance : goal.returns-in-BadDistance
-returns-in-BadDistance c =
-    placed_is _ _ _ _ c.in-BadDistance.is (both c.number.ensures (c.store-in-BadDistance.ensures ∙ front_placed _ _))
+pub returns-in-None : goal.returns-in-None
+returns-in-None c =
+    placed_is _ _ _ _ c.in-None.is (both refl (c.store-in-None.ensures ∙ front_placed _ _))

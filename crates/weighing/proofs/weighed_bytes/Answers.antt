@@ -7,7 +7,7 @@ use Rattle.weighing.proofs.weighed_bytes.Goals as goal
 
 pub returns-then-out-lt8 : goal.returns-then-out-lt8
 unfolding weighed_bytes
-returns-then-out-lt8 c = rw (lt-ltb _ _ c.if-out-lt8.true) (both c.number.ensures refl)
+returns-then-out-lt8 c = rw (lt-ltb _ _ c.if-out-lt8.true) (both refl refl)
 
 pub returns : goal.returns
 unfolding weighed_bytes

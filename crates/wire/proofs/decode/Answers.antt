@@ -5,12 +5,12 @@ use Rattle.wire.specs.Wire.{real_of}
 use Rattle.wire.proofs.Decoding.{start, next, done}
 use Rattle.wire.proofs.decode.Goals as goal
 
-pub loop-i-init : goal.loop-i-init
-loop-i-init c = start
+pub loop-k-init : goal.loop-k-init
+loop-k-init c = start
 
-pub loop-i-preserved : goal.loop-i-preserved
-loop-i-preserved c =
-    next c.loop-i.invariant (search rules) (search rules) (c.real_of.ensures ∙ ap real_of c.load.ensures)
+pub loop-k-preserved : goal.loop-k-preserved
+loop-k-preserved c =
+    next c.loop-k.invariant (search rules) (c.real_of.ensures ∙ ap real_of c.load.ensures)
 
 pub returns : goal.returns
-returns c = done c.loop-i.invariant (search rules)
+returns c = done c.loop-k.invariant c.loop-k.auto.k-end (search rules)

@@ -8,7 +8,7 @@ loop-k-init c = start
 
 pub loop-k-preserved : goal.loop-k-preserved
 loop-k-preserved c =
-    next c.loop-k.invariant (search rules) (search rules) c.bits_of.ensures c.store.ensures (search rules)
+    next c.loop-k.invariant (search rules) c.bits_of.ensures c.store.ensures
 
 pub returns : goal.returns
-returns c = done c.loop-k.invariant (search rules)
+returns c = done c.loop-k.invariant c.loop-k.auto.k-end (search rules)

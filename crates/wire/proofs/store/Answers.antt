@@ -1,13 +1,14 @@
 -- `wire::store` meets its contract.
-use borrow.Author.Rules.{rules}
-use Rattle.wire.proofs.Storing.{start, next, done}
+use native.Mathlib.Omega.{arith}
+use Prim.Native.Nat.{◌+◌, ◌-◌}
+use mathlib.Core.Path.{◌≡◌, ◌∙◌}
+use lib.Seq.{drop-drop}
+use Rattle.wire.proofs.Little.{stored}
 use Rattle.wire.proofs.store.Goals as goal
 
-pub loop-k-init : goal.loop-k-init
-loop-k-init c = start c.requires
-
-pub loop-k-preserved : goal.loop-k-preserved
-loop-k-preserved c = next c.loop-k.invariant (search rules)
-
 pub returns : goal.returns
-returns c = done c.loop-k.invariant (search rules)
+returns c =
+    let at = c.args.at in
+    let behind : at + (at + 8 - at) ≡ at + 8 = omega arith in
+    let part = c.copy_from_slice.ensures.after ∙ c.to_le_bytes.ensures ∙ stored c.args.v in
+    rw (part, drop-drop (at + 8 - at) at c.args.s.now, behind)

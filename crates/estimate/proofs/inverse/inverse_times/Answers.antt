@@ -1,17 +1,15 @@
--- `estimate::inverse::inverse_times` meets its contract: the loop's sum is the fold of `inverse_step` up to q.
+-- `estimate::inverse::inverse_times` meets its contract.
 use borrow.Author.Rules.{rules}
-use mathlib.Core.Path.{refl}
-use Rattle.real.proofs.Fold.{none, more, done}
-use Rattle.estimate.specs.Inverse.{inverse_cell, inverse_step, inverse_times}
+use mathlib.Core.Path.{◌≡◌, ◌∙◌}
+use mathlib.Core.List.{[]}
+use native.Mathlib.Omega.{arith}
+use lib.ListN.{length, get_or}
+use Rattle.estimate.proofs.Products.{inverse_inner}
 use Rattle.estimate.proofs.inverse.inverse_times.Goals as goal
 
-pub loop-q-init : goal.loop-q-init
-loop-q-init c = none (search rules)
-
-pub loop-q-preserved : goal.loop-q-preserved
-unfolding inverse_cell inverse_step
-loop-q-preserved c = more c.loop-q.invariant (search rules) refl
-
 pub returns : goal.returns
-unfolding inverse_times
-returns c = done c.loop-q.invariant (search rules)
+returns c =
+    let s = c.args in
+    let cells : length (get_or s.a.now s.p []) ≡ 16 = search rules in
+    let long : length s.v ≡ 8 = search rules in
+    c.inner_product.ensures ∙ inverse_inner s.a.now s.m s.p s.v (omega arith) (omega (arith, cells, c.requires.1)) (omega (arith, long, c.requires.1))

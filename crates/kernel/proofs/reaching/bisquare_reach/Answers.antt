@@ -1,5 +1,4 @@
 -- `kernel::reaching::bisquare_reach` meets its contract: its tests are those of the definition.
-use borrow.Author.Rules.{rules}
 use mathlib.Core.Path.{◌≡◌, sym, ap, ◌∙◌}
 use mathlib.Core.Bool.{Bool, true, false, cond}
 use lib.Ieee.{Float, nan, binary64, mul, div, le, of_bits}
@@ -24,17 +23,9 @@ module _ (b : Float) where
   unfolding bisquare_reach unusable
   judged f h e j = sym (rw (f, h, sym (ap (le b) e) ∙ j))
 
-pub is_finite-usable-requires : goal.is_finite-usable-requires
-unfolding div of_bits
-is_finite-usable-requires c = search rules
-
 pub returns-then-b : goal.returns-then-b
 unfolding div of_bits
 returns-then-b c = low _ (sym c.is_finite-usable.ensures ∙ c.if-usable.true) c.if-b.true
-
-pub sqrt-requires : goal.sqrt-requires
-unfolding div of_bits
-sqrt-requires c = search rules
 
 pub returns-then-sqrt-b : goal.returns-then-sqrt-b
 unfolding div of_bits

@@ -1,31 +1,21 @@
--- `normal::design::design_row` meets its contract: the loop's row is the fold of `design_step` up to q; a cell of observation j stands within the predictors.
-use borrow.Author.Rules.{rules}
-use mathlib.Core.Path.{refl}
+-- `normal::design::design_row` meets its contract: the predictors stand behind the 1.
+use mathlib.Core.Path.{◌≡◌, ◌∙◌}
+use Prim.Native.Nat.{◌+◌, ◌-◌}
 use native.Mathlib.Omega.{arith}
-use lib.Arith.{digits_lt}
-use Rattle.real.proofs.Fold.{none, more, done}
-use Rattle.normal.specs.Design.{design_step, design_row}
+use lib.ListN.{length}
+use Rattle.normal.specs.Design.{predictors_of}
+use Rattle.normal.proofs.DesignCells.{own_long, own_within, design_alone, copied_in}
 use Rattle.normal.proofs.design.design_row.Goals as goal
 
-pub loop-q-init : goal.loop-q-init
-loop-q-init c = none (search rules)
-
-pub overflow_mul-r : goal.overflow_mul-r
-overflow_mul-r c = omega (arith, (digits_lt c.requires.1 c.loop-q-test.true))
-
-pub overflow_add-r : goal.overflow_add-r
-overflow_add-r c = omega (arith, (digits_lt c.requires.1 c.loop-q-test.true))
-
-pub offset_bounds-x-j : goal.offset_bounds-x-j
-offset_bounds-x-j c = omega (arith, (digits_lt c.requires.1 c.loop-q-test.true))
-
-pub bounds-x-j : goal.bounds-x-j
-bounds-x-j c = omega (arith, (digits_lt c.requires.1 c.loop-q-test.true))
-
-pub loop-q-preserved : goal.loop-q-preserved
-unfolding design_step
-loop-q-preserved c = more c.loop-q.invariant (search rules) refl
-
 pub returns : goal.returns
-unfolding design_row
-returns c = done c.loop-q.invariant (search rules)
+returns c =
+    let q = c.args.problem.now in
+    let x = q.columns.predictors in
+    let j = c.args.j in
+    let shaped = c.setup-u.ensures.shaped in
+    let within = own_within x q.setup.n q.setup.p j shaped.rows c.requires in
+    let own = predictors_of x q.setup.p j in
+    let long = own_long x q.setup.p j within in
+    let is = rw (c.predictors.ensures.predictors, c.setup-u.ensures.setup) at c.predictors_of-own.ensures in
+    rw (c.copy_from_slice.ensures.after, is, c.setup-u.ensures.setup)
+    (copied_in own (q.setup.p + 1 - 1) (omega (arith, long, shaped.sized.narrow)) (omega (arith, long)) ∙ design_alone x q.setup.p j within)

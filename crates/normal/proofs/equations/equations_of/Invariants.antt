@@ -1,13 +1,7 @@
 -- `normal::equations::equations_of` meets its contract: the loop's sums are the fold of `normal_step` up to j; an observation that weighs nothing is passed by.
-use Prim.Native.Nat.{◌-◌}
 use Rattle.real.proofs.Fold.{Range}
-use Rattle.setup.specs.Data.{data_of}
 use Rattle.normal.specs.Equations.{normal_step}
 use Rattle.normal.proofs.equations.equations_of.Given as goal
 
 abbrev pub invariant-loop-j : goal.invariant-loop-j
-invariant-loop-j l =
-    Range (normal_step l.u (data_of l.coords l.x l.y) l.w) (l.initial.a, l.initial.rhs) 0 l.u.n l.j (l.a, l.rhs)
-
-abbrev pub decreases-loop-j : goal.decreases-loop-j
-decreases-loop-j l = l.u.n - l.j
+invariant-loop-j l = Range (normal_step l.problem.setup l.problem.columns l.w) l.initial.e 0 l.problem.setup.n l.j l.e

@@ -1,17 +1,21 @@
 -- `plan::accept` meets its contract, case by case.
 use mathlib.Core.Path.{sym, ◌∙◌}
 use Rattle.setup.specs.Data.{trusted_data}
-use Rattle.checks.proofs.Tests.{read}
+use Rattle.checks.proofs.Tests.{handed_on}
 use Rattle.plan.proofs.Planned.{accept_refused, accept_passed}
 use Rattle.input.proofs.Accepted.{input_accepted}
 use Rattle.plan.proofs.planning.accept.Goals as goal
 
 pub plan_options-requires : goal.plan_options-requires
 plan_options-requires c =
-    let a = (input_accepted (trusted_data _ _ _ _) _ _ _ (sym c.check_input-input.ensures ∙ c.in-Pass.is)).shaped in record { lengths = a.places; sized = a.sized }
+    let checked = rw (← c.columns.view_is) at c.check_input.ensures in
+    let a = (input_accepted (trusted_data _ _ _ _) _ _ _ (sym checked ∙ c.in_ok-check_input.was)).shaped in record { lengths = a.places; sized = a.sized }
 
-pub returns-in-Refused : goal.returns-in-Refused
-returns-in-Refused c = search (accept_refused, read)
+pub returns-in_err-check_input : goal.returns-in_err-check_input
+returns-in_err-check_input c =
+    handed_on c.from_residual.ensures ∙ accept_refused _ _ _ _ (sym c.check_input.ensures ∙ c.in_err-check_input.was)
 
-pub returns-in-Pass : goal.returns-in-Pass
-returns-in-Pass c = search (accept_passed, read)
+pub returns : goal.returns
+returns c =
+    let checked = rw (← c.columns.view_is) at c.check_input.ensures in
+    rw (← c.columns.view_is) (accept_passed _ _ _ _ (sym checked ∙ c.in_ok-check_input.was) c.plan_options.ensures)

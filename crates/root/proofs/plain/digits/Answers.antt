@@ -1,10 +1,7 @@
 -- `root::plain::digits` meets its contract: `Digits` of `Squares.antt` is its loop's invariant.
-use Rattle.root.proofs.Squares.{start, one, none, ended}
+use Rattle.root.proofs.Squares.{one, none}
 use Rattle.root.proofs.plain.digits.Goals as goal
 use Rattle.root.proofs.plain.digits.Goals.{then-t-next, else-t-next}
-
-pub loop-i-init : goal.loop-i-init
-loop-i-init c = start _ c.requires
 
 pub loop-i-preserved : goal.loop-i-preserved
 loop-i-preserved c =
@@ -13,6 +10,3 @@ loop-i-preserved c =
       | then-t-next w ↦ rw (w.q-is, w.rem-is) (one _ at.q at.rem at.c at.i at.invariant c.loop-i-test.true w.if-t-next.true)
       | else-t-next w ↦ rw (w.q-is, w.rem-is) (none _ at.q at.rem at.c at.i at.invariant c.loop-i-test.true w.if-t-next.false)
     ]
-
-pub returns : goal.returns
-returns c = ended c.loop-i.invariant c.loop-i-test.false

@@ -1,25 +1,14 @@
--- `search::memory::slot_of`: the entries before j are in use and have other keys.
-use borrow.Author.Count.{below_none, below_more}
-use borrow.Author.Rules.{rules}
-use mathlib.Core.Logic.{inl, inr}
-use native.Mathlib.Omega.{arith}
+-- `search::memory::slot_of`: the place of the first entry that serves.
+use mathlib.Core.Path.{ap, ◌∙◌}
+use Prim.Native.Nat.{ℕ}
+use Rattle.std.proofs.Common.{rules, tests}
+use Rattle.std.proofs.lemmas.Iterator.{YieldsList-from_slice}
+use Rattle.std.proofs.lemmas.Iterator.Search.{position_from_yields_List}
+use Rattle.std.specs.Prelude.{Option, unwrap_or}
+use Rattle.search.specs.Memo.{serves}
 use Rattle.search.proofs.memory.slot_of.Goals as goal
 
-pub loop-j-init : goal.loop-j-init
-loop-j-init c = (omega arith, below_none _)
-
-pub returns-then-tried-j-eq0 : goal.returns-then-tried-j-eq0
-returns-then-tried-j-eq0 c =
-    record { within = search rules; before = c.loop-j.invariant.1; found = λ h. inl c.if-tried-j-eq0.true }
-
-pub returns-then-tried-j : goal.returns-then-tried-j
-returns-then-tried-j c =
-    record { within = search rules; before = c.loop-j.invariant.1; found = λ h. inr c.if-tried-j.true }
-
-pub loop-j-preserved : goal.loop-j-preserved
-loop-j-preserved c =
-    (search rules, below_more _ _ c.loop-j.invariant.1 (omega (arith, c.if-tried-j-eq0.false), c.if-tried-j.false))
-
-pub returns : goal.returns
-returns c =
-    record { within = omega arith; before = λ k h. c.loop-j.invariant.1 k (omega arith); found = λ h. absurd (omega arith) }
+pub returns-clause-value : goal.returns-clause-value
+returns-clause-value c =
+    c.unwrap_or.ensures
+    ∙ ap (λ (o : Option ℕ). unwrap_or o 101) (position_from_yields_List (serves c.args.key) _ _ c.position.result c.position.ensures.ran (YieldsList-from_slice c.args.tried.now c.iter.ensures.rest) (λ x b q k. search (rules, tests)))

@@ -6,19 +6,18 @@ use Rattle.bounds.proofs.Usable.{bandwidth_usable}
 use Rattle.search.proofs.Memos.{point_is, recalled, kept}
 use Rattle.search.proofs.memory.trial_of.Goals as goal
 
-pub returns-then-held-gt0 : goal.returns-then-held-gt0
-returns-then-held-gt0 c =
-    record { value = recalled _ _ _ (subst T (sym c.well_formed.1.1.1.1.1.0.1) tt) _ _ c.bandwidth_at-b.ensures c.key_of-key.ensures c.requires.remembered _ c.if-held-key.true c.if-held-gt0.true; still_remembered = c.requires.remembered }
+pub returns-then-held-key-clause-value : goal.returns-then-held-key-clause-value
+returns-then-held-key-clause-value c =
+    recalled _ _ _ (subst T (sym c.well_formed.1.0.1) tt) _ _ (rw c.setup-u.ensures.setup at c.bandwidth_at-b.ensures) c.key_of-key.ensures c.requires.remembered _ _ c.in-Some.is c.if-held-key.true
 
-pub evaluate_aicc-t-requires : goal.evaluate_aicc-t-requires
-evaluate_aicc-t-requires c =
-    let shaped = c.requires.shaped in
-    record { shaped = shaped; usable = subst⁻¹ Usable c.bandwidth_at-b.ensures (bandwidth_usable _ shaped.sized _) }
+pub evaluate_aicc-trial-requires : goal.evaluate_aicc-trial-requires
+evaluate_aicc-trial-requires c =
+    record { usable = subst⁻¹ Usable (rw c.setup-u.ensures.setup at c.bandwidth_at-b.ensures) (bandwidth_usable _ c.setup-u.ensures.shaped.sized _) }
 
-pub returns : goal.returns
-returns c =
-    let fit = subst T (sym c.well_formed.1.1.1.1.1.0.1) tt in
-    let hb = c.bandwidth_at-b.ensures in
-    let hk = c.key_of-key.ensures in
-    let t = c.evaluate_aicc-t.ensures in
-    record { value = point_is _ _ _ fit _ _ hb hk _ t; still_remembered = kept _ _ _ fit _ _ hb hk c.requires.remembered _ _ t c.slot_of-j.ensures.within }
+pub returns-clause-value : goal.returns-clause-value
+returns-clause-value c =
+    point_is _ _ _ (subst T (sym c.well_formed.1.0.1) tt) _ _ (rw c.setup-u.ensures.setup at c.bandwidth_at-b.ensures) c.key_of-key.ensures _ c.evaluate_aicc-trial.ensures
+
+pub returns-clause-still_remembered : goal.returns-clause-still_remembered
+returns-clause-still_remembered c =
+    kept _ _ _ (subst T (sym c.well_formed.1.0.1) tt) _ _ (rw c.setup-u.ensures.setup at c.bandwidth_at-b.ensures) c.key_of-key.ensures c.requires.remembered _ _ c.evaluate_aicc-trial.ensures c.slot_of-j.ensures.within

@@ -6,9 +6,8 @@ use Rattle.search.proofs.seeking.opened_of.Goals as goal
 
 pub overflow_add-result : goal.overflow_add-result
 overflow_add-result c =
-    let few = c.requires.shaped.sized.few in
-    let h = trial_made _ _ few _ _ c.trial_of-first.ensures.value in
-    let k = trial_made _ _ few _ _ c.trial_of-second.ensures.value in
+    let h = trial_made _ _ c.requires.few _ _ c.trial_of-first.ensures.value in
+    let k = trial_made _ _ c.requires.few _ _ c.trial_of-second.ensures.value in
     omega (arith, h, k)
 
 pub returns : goal.returns

@@ -1,18 +1,14 @@
--- `search::seeking::round_of`: nothing once the search is over, else a trial at the aim.
+-- `search::seeking::round_of`: a trial at the aim.
 use native.Mathlib.Omega.{arith}
 use Rattle.search.proofs.Solves.{trial_made}
-use Rattle.search.proofs.Searches.{round_over, round_on}
+use Rattle.search.proofs.Searches.{round_on}
 use Rattle.search.proofs.seeking.round_of.Goals as goal
-
-pub returns-then-s : goal.returns-then-s
-returns-then-s c =
-    record { value = round_over _ _ _ _ c.if-s.true; still_remembered = c.requires.remembered }
 
 pub overflow_add-result : goal.overflow_add-result
 overflow_add-result c =
-    let h = trial_made _ _ c.requires.shaped.sized.few _ _ c.trial_of-t.ensures.value in
+    let h = trial_made _ _ c.requires.few _ _ c.trial_of-t.ensures.value in
     omega (arith, h, c.requires.few_solves)
 
 pub returns : goal.returns
 returns c =
-    record { value = round_on _ _ _ _ _ _ _ _ c.if-s.false c.aim.ensures c.trial_of-t.ensures.value c.narrow-next.ensures c.is_tight.ensures; still_remembered = c.trial_of-t.ensures.still_remembered }
+    record { value = round_on _ _ _ _ _ _ _ _ c.requires.going c.aim.ensures c.trial_of-t.ensures.value c.narrow-next.ensures c.is_tight.ensures; still_remembered = c.trial_of-t.ensures.still_remembered }

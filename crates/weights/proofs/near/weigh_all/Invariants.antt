@@ -1,5 +1,5 @@
 -- `weights::near::weigh_all` meets its contract: its loop is the fold of `weigh_step`, over kernel weights made before it.
-use Prim.Native.Nat.{◌-◌}
+use lib.ListN.{length}
 use Rattle.real.proofs.Fold.{Range}
 use Rattle.real.specs.Reals.{zero64}
 use Rattle.weights.specs.Weights.{weigh_step}
@@ -7,7 +7,4 @@ use Rattle.weights.specs.Near.{trusted_over}
 use Rattle.weights.proofs.near.weigh_all.Given as goal
 
 abbrev pub invariant-loop-j : goal.invariant-loop-j
-invariant-loop-j l = Range (weigh_step (trusted_over l.y l.trust)) (l.initial.w, zero64) 0 l.n l.j (l.w, l.sum)
-
-abbrev pub decreases-loop-j : goal.decreases-loop-j
-decreases-loop-j l = l.n - l.j
+invariant-loop-j l = Range (weigh_step (trusted_over l.y l.trusts)) (l.initial.w, zero64) 0 (length l.trusts) l.j (l.w, l.sum)

@@ -11,7 +11,7 @@ loop-j-init c = none (search rules)
 pub loop-j-preserved : goal.loop-j-preserved
 unfolding weigh_step
 loop-j-preserved c =
-    more c.loop-j.invariant (search rules) (rw (c.weight_within.ensures, c.squares-s.ensures, distance_is))
+    more c.loop-j.invariant (search rules) (rw (c.weight_within.ensures, c.squares-s.ensures, c.at.ensures, distance_is))
 
 pub returns : goal.returns
 returns c = done c.loop-j.invariant (search rules)

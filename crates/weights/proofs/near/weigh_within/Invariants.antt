@@ -1,5 +1,5 @@
 -- `weights::near::weigh_within` meets its contract: its loop is the fold of `weigh_step`.
-use Prim.Native.Nat.{◌-◌}
+use lib.ListN.{length}
 use Rattle.real.proofs.Fold.{Range}
 use Rattle.real.specs.Reals.{zero64}
 use Rattle.weights.specs.Weights.{weigh_step}
@@ -8,7 +8,4 @@ use Rattle.weights.proofs.near.weigh_within.Given as goal
 
 abbrev pub invariant-loop-j : goal.invariant-loop-j
 invariant-loop-j l =
-    Range (weigh_step (near_weight l.kernel l.coords l.trust l.east l.north l.b)) (l.initial.w, zero64) 0 l.n l.j (l.w, l.sum)
-
-abbrev pub decreases-loop-j : goal.decreases-loop-j
-decreases-loop-j l = l.n - l.j
+    Range (weigh_step (near_weight l.kernel l.coords l.trusts l.place.east l.place.north l.b)) (l.initial.w, zero64) 0 (length l.trusts) l.j (l.w, l.sum)

@@ -1,7 +1,0 @@
--- `mapped::roots` meets its contract.
-use Rattle.root.specs.Root.{root}
-use Rattle.mapped.proofs.Mapping.{Mapping}
-use Rattle.mapped.proofs.roots.Given as goal
-
-abbrev pub invariant-loop-i : goal.invariant-loop-i
-invariant-loop-i l = Mapping root l.initial.values l.i-end l.i l.values

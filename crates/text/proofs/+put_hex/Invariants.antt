@@ -1,5 +1,0 @@
--- `text::put_hex` calls itself with one place less.
-use Rattle.text.proofs.+put_hex.Given as goal
-
-abbrev pub decreases-put_hex : goal.decreases-put_hex
-decreases-put_hex l = l.places
