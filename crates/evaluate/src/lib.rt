@@ -113,7 +113,7 @@ pub fn values_at(
     let u = problem.setup();
     let x = problem.predictors();
     let y = problem.responses();
-    let row = normal::design_row(problem, i);
+    let row = normal::design_row(x, u.n, u.p, i);
     let predicted = fitted(&fit.beta, normal::predictors_of(x, u.n, u.p, i));
     Values {
         predicted,

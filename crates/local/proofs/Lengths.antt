@@ -1,5 +1,5 @@
 -- The coefficients of a location solved are 8 numbers.
-use mathlib.Core.Path.{◌≡◌, refl}
+use mathlib.Core.Path.{◌≡◌}
 use Prim.Native.Nat.{ℕ}
 use lib.ListN.{length}
 use Rattle.setup.specs.declared.GwrBandwidth.{GwrBandwidth}

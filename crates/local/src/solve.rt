@@ -32,6 +32,6 @@ pub fn solve_location(
     requires is_location { i < problem.now.setup.n }
     ensures { result ≡ solve_location problem.now.setup problem.now.columns bandwidth i }
 {
-    let b = neighbours::local_bandwidth_distance(problem, i, bandwidth);
+    let b = neighbours::local_bandwidth_distance(problem.coords(), i, bandwidth);
     solve_local(problem, i, b)
 }

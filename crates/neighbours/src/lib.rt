@@ -4,13 +4,13 @@
 // root in all.
 #![tactic(auto)]
 
-ghost use Rattle.std.specs.Prelude.{◌≡◌, ◌/◌, ◌≤◌, ◌<◌, length};
+ghost use Rattle.std.specs.Prelude.{◌≡◌, ◌+◌, ◌*◌, ◌/◌, ◌≤◌, ◌<◌, length};
 ghost use Rattle.setup.specs.Bandwidth.{Usable};
 ghost use Rattle.neighbours.specs.Walk.{nearest_from};
 ghost use Rattle.neighbours.specs.Bandwidth.{local_bandwidth_distance};
 
 use kernel::Place;
-use setup::{GwrBandwidth, Problem};
+use setup::GwrBandwidth;
 
 mod walk;
 
@@ -27,15 +27,14 @@ pub fn nearest_from(coords: &[f64], place: Place, own: Option<usize>, k: usize) 
 }
 
 // 000's `local_bandwidth_distance`.
-pub fn local_bandwidth_distance(problem: &Problem<'_>, i: usize, bandwidth: GwrBandwidth) -> f64
-    requires is_location { i < problem.now.setup.n }
+pub fn local_bandwidth_distance(coords: &[f64], i: usize, bandwidth: GwrBandwidth) -> f64
+    requires is_location { 2 * i + 1 < length coords.now }
+    requires few { length coords.now ≤ 1024 }
     requires usable { Usable bandwidth }
-    ensures { result ≡ local_bandwidth_distance problem.now.columns.coords problem.now.setup.n i bandwidth }
+    ensures { result ≡ local_bandwidth_distance coords.now (length coords.now / 2) i bandwidth }
 {
     match bandwidth {
         GwrBandwidth::Fixed(b) => b,
-        GwrBandwidth::AdaptiveKnn(k) => {
-            nearest_from(problem.coords(), problem.place(i), Some(i), k)
-        }
+        GwrBandwidth::AdaptiveKnn(k) => nearest_from(coords, Place::at(coords, i), Some(i), k),
     }
 }

@@ -1,5 +1,4 @@
 -- `evaluate::local_r_squared` meets its contract: each part is its definition, in order.
-use mathlib.Core.Path.{◌∙◌}
 use borrow.Author.Rules.{rules}
 use Rattle.evaluate.proofs.Sums.{weighted_is}
 use Rattle.evaluate.specs.Evaluate.{local_r_squared}

@@ -9,4 +9,5 @@ returns c =
     let q = c.args.problem.now in
     let own = rw (c.predictors-x.ensures.predictors, c.setup-u.ensures.setup) at c.predictors_of.ensures in
     let f = fitted_at q.columns.predictors q.setup.n q.setup.p c.args.i c.setup-u.ensures.shaped.rows c.requires own _ c.fitted-predicted.ensures in
-    rw (c.hat_diagonal.ensures, c.local_r_squared.ensures, f, c.design_row-row.ensures, c.responses-y.ensures, c.setup-u.ensures.setup)
+    let row = rw (c.predictors-x.ensures.predictors, c.setup-u.ensures.setup) at c.design_row-row.ensures in
+    rw (c.hat_diagonal.ensures, c.local_r_squared.ensures, f, row, c.responses-y.ensures, c.setup-u.ensures.setup)
