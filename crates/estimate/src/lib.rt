@@ -5,7 +5,7 @@ ghost use Rattle.std.specs.Prelude.{◌≡◌, ◌≤◌};
 ghost use Rattle.estimate.specs.Estimate.{coefficients_of, from_inverse, coefficients_under, fit_coefficients};
 
 use refusal::Refusal;
-use setup::Problem;
+use setup::Sample;
 
 mod inner;
 mod inverse;
@@ -49,11 +49,11 @@ fn from_inverse(inverse: [[f64; 16]; 8], rhs: [f64; 8], m: usize) -> Result<Coef
 }
 
 // The coefficients of the fit under the weights w.
-fn coefficients_under(problem: &Problem<'_>, w: &[f64; 512]) -> Result<Coefficients, Refusal>
-    ensures { result ≡ coefficients_under problem.now.setup problem.now.columns w.now }
+fn coefficients_under(sample: &Sample<'_>, w: &[f64; 512]) -> Result<Coefficients, Refusal>
+    ensures { result ≡ coefficients_under sample.now.setup sample.now.columns w.now }
 {
-    let m = problem.setup().p + 1;
-    let e = normal::equations_of(problem, w);
+    let m = sample.setup().p + 1;
+    let e = normal::equations_of(sample, w);
     match inverse::invert_matrix(&e.a, m) {
         Some(inverse) => from_inverse(inverse, e.rhs, m),
         None => Err(Refusal::Singular),
@@ -62,14 +62,14 @@ fn coefficients_under(problem: &Problem<'_>, w: &[f64; 512]) -> Result<Coefficie
 
 // The same under weights with this sum, which must be above zero.
 pub fn fit_coefficients(
-    problem: &Problem<'_>,
+    sample: &Sample<'_>,
     w: &[f64; 512],
     sum: f64,
 ) -> Result<Coefficients, Refusal>
-    ensures { result ≡ fit_coefficients problem.now.setup problem.now.columns w.now sum }
+    ensures { result ≡ fit_coefficients sample.now.setup sample.now.columns w.now sum }
 {
     if sum > 0.0 {
-        coefficients_under(problem, w)
+        coefficients_under(sample, w)
     } else {
         Err(Refusal::WeightSumNotPositive)
     }

@@ -14,8 +14,9 @@ fn solve_local(problem: &Problem<'_>, i: usize, b: f64) -> Result<Solved, Refusa
 {
     let mut w = [0.0; 512];
     let sum = weights::weigh(problem, problem.place(i), b, &mut w);
-    let fit = estimate::fit_coefficients(problem, &w, sum)?;
-    let values = evaluate::values_at(problem, &w, i, &fit, sum);
+    let sample = problem.sample();
+    let fit = estimate::fit_coefficients(sample, &w, sum)?;
+    let values = evaluate::values_at(sample, &w, i, &fit, sum);
     Ok(Solved {
         values,
         beta: fit.beta,

@@ -4,7 +4,7 @@ ghost use Rattle.normal.specs.Design.{design_of};
 ghost use Rattle.normal.specs.Equations.{add_row, observe, equations_of};
 
 use crate::design::predictors_of;
-use setup::Problem;
+use setup::Sample;
 
 // The upper triangle of the matrix A, and the right-hand side.
 #[derive(Clone, Copy)]
@@ -50,12 +50,12 @@ fn observe(e: &mut Equations, w: f64, y: f64, own: &[f64])
 }
 
 // The weighted normal equations over observations in order, leaving out weight 0.
-pub fn equations_of(problem: &Problem<'_>, w: &[f64; 512]) -> Equations
-    ensures { result ≡ equations_of problem.now.setup problem.now.columns w.now }
+pub fn equations_of(sample: &Sample<'_>, w: &[f64; 512]) -> Equations
+    ensures { result ≡ equations_of sample.now.setup sample.now.columns w.now }
 {
-    let u = problem.setup();
-    let x = problem.predictors();
-    let y = problem.responses();
+    let u = sample.setup();
+    let x = sample.predictors();
+    let y = sample.responses();
     let mut e = Equations {
         a: [[0.0; 8]; 8],
         rhs: [0.0; 8],

@@ -9,7 +9,7 @@ use kernel::GwrKernel;
 
 mod problem;
 
-pub use problem::{Columns, Problem};
+pub use problem::{Columns, Problem, Sample};
 
 // 000's bandwidth: a distance, or a number of neighbours.
 #[derive(Clone, Copy, PartialEq, Debug)]

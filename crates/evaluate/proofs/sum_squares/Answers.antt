@@ -20,7 +20,7 @@ pub loop-j-preserved : goal.loop-j-preserved
 unfolding squares_step
 loop-j-preserved c =
     let n = ap (λ (u : Setup). u.n) c.setup-u.ensures.setup in
-    let q = c.args.problem.now in
+    let q = c.args.sample.now in
     let own = rw (c.predictors-x.ensures.predictors, c.setup-u.ensures.setup) at c.predictors_of-own.ensures in
     let f = fitted_at q.columns.predictors q.setup.n q.setup.p c.loop-j.j c.setup-u.ensures.shaped.rows (omega (arith, n)) own _ c.fitted.ensures in
     more c.loop-j.invariant (omega (arith, n)) (c.add_squares-s.ensures ∙ rw (c.if-w-j.false, f, c.responses-y.ensures))
