@@ -1,4 +1,4 @@
-// The inverse of the matrix of the normal equations: the right half of the eliminated matrix.
+// The inverse of the matrix of the normal equations: the right half of the eliminated matrix, of which m rows count.
 ghost use Rattle.std.specs.Prelude.{◌≡◌, ◌≤◌, ◌<◌};
 ghost use Rattle.estimate.specs.Inverse.{invert_matrix, inverse_times, inverse_finite};
 

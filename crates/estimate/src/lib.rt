@@ -1,4 +1,6 @@
 // The coefficients of a weighted fit at a place, from the weights of the observations seen from there.
+//
+// Weights, coefficients and matrices have fixed room, since there is no heap: n, m and m rows of them count.
 #![tactic(auto)]
 
 ghost use Rattle.std.specs.Prelude.{◌≡◌, ◌≤◌};
@@ -26,7 +28,7 @@ fn coefficients_of(a: &[[f64; 16]; 8], rhs: [f64; 8], m: usize) -> [f64; 8]
     ensures { result ≡ coefficients_of a.now rhs m }
 {
     let mut beta = [0.0; 8];
-    // An index, since `inverse_times` takes it.
+    // An index: row p of the inverse gives coefficient p. `array::from_fn` would ask of each of the 8 whether it counts.
     for p in 0..m {
         beta[p] = inverse::inverse_times(a, p, rhs, m);
     }

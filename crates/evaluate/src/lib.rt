@@ -1,4 +1,6 @@
 // What a fit says of the location that it was made for: prediction, residual, local R² and leverage.
+//
+// Weights have fixed room, since there is no heap: those of the n observations count. They are no part of a sample, which they weigh.
 #![tactic(auto)]
 
 ghost use Rattle.std.specs.Prelude.{◌≡◌, ◌+◌, ◌≤◌, ◌<◌, length};
@@ -38,7 +40,7 @@ fn hat_diagonal(inverse: &[[f64; 16]; 8], row: [f64; 8], own: f64, m: usize) -> 
     ensures { result ≡ hat_diagonal inverse.now row own m }
 {
     let mut quad = 0.0;
-    // An index, since `inverse_times` takes it.
+    // An index: row p of the inverse and cell p of the design row.
     for p in 0..m {
         quad = quad + row[p] * estimate::inverse_times(inverse, p, row, m);
     }

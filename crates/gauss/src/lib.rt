@@ -1,4 +1,6 @@
 // 000's `invert_matrix`: Gauss-Jordan elimination with partial pivoting on the augmented matrix [A | I].
+//
+// A matrix has fixed room, since there is no heap: n rows and m columns of it count, and rows and columns go by their numbers.
 #![tactic(auto)]
 
 ghost use Rattle.std.specs.Prelude.{◌≡◌, ◌≤◌, ◌<◌};
@@ -33,7 +35,7 @@ fn find_pivot(a: &[[f64; 16]; 8], i: usize, n: usize) -> Pivot
         row: i,
         val: real::abs(a[i][i]),
     };
-    // An index, since `better` takes it.
+    // An index: the pivot is a row, by its number.
     for k in i + 1..n {
         p = better(a, i, k, p);
     }
@@ -82,7 +84,7 @@ fn clear(a: &mut [[f64; 16]; 8], i: usize, n: usize, m: usize)
     ensures { a.new ≡ cleared i n m a.old }
 {
     let by = a[i];
-    // An index, since `clear_row` takes it.
+    // An index: row i, told from the others by its number, stays.
     for k in 0..n {
         clear_row(&mut a[k], &by, k, i, m);
     }

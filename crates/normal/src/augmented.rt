@@ -1,4 +1,4 @@
-// The augmented matrix [A | I].
+// The augmented matrix [A | I], in fixed room, since there is no heap: m rows of it count, and 2 m cells of a row.
 ghost use Rattle.std.specs.Prelude.{◌≡◌, ◌≤◌, ◌<◌};
 ghost use Rattle.normal.specs.Augmented.{mirrored_cell, augmented_row, augmented_matrix};
 
@@ -16,7 +16,7 @@ fn augmented_row(a: &[[f64; 8]; 8], p: usize, m: usize) -> [f64; 16]
     ensures { result ≡ augmented_row a.now m p }
 {
     let mut r = [0.0; 16];
-    // An index, since `mirrored_cell` takes it.
+    // An index: a cell is a row's and a column's. `array::from_fn` would ask of each of the 16 whether it counts.
     for q in 0..m {
         r[q] = mirrored_cell(a, p, q);
     }
@@ -30,7 +30,7 @@ pub fn augmented_matrix(a: &[[f64; 8]; 8], m: usize) -> [[f64; 16]; 8]
     ensures { result ≡ augmented_matrix a.now m }
 {
     let mut r = [[0.0; 16]; 8];
-    // An index, since `augmented_row` takes it.
+    // An index: row p has its 1 in column m + p. `array::from_fn` would ask of each of the 8 whether it counts.
     for p in 0..m {
         r[p] = augmented_row(a, p, m);
     }

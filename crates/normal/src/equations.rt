@@ -1,4 +1,4 @@
-// The weighted normal equations, observation by observation.
+// The weighted normal equations, observation by observation. Weights have fixed room, since there is no heap: n of the 512 count.
 ghost use Rattle.std.specs.Prelude.{◌≡◌, ◌+◌, ◌≤◌, length};
 ghost use Rattle.normal.specs.Design.{design_of};
 ghost use Rattle.normal.specs.Equations.{add_row, observe, equations_of};
@@ -60,7 +60,7 @@ pub fn equations_of(sample: &Sample<'_>, w: &[f64; 512]) -> Equations
         a: [[0.0; 8]; 8],
         rhs: [0.0; 8],
     };
-    // An index: chunks of no predictors cannot be zipped.
+    // An index: chunks of no predictors cannot be zipped. `sum_squares` of `evaluate` walks likewise; what is shared is these lines alone.
     for j in 0..u.n {
         if w[j] == 0.0 {
             continue;

@@ -1,4 +1,4 @@
-// The output row of a location.
+// The output row of a location. Coefficients have fixed room, since there is no heap: m of the 8 count.
 #![tactic(auto)]
 
 ghost use Rattle.std.specs.Prelude.{◌≡◌, ◌++◌, ◌+◌, ◌*◌, ◌≤◌, ◌<◌, length, drop};

@@ -1,4 +1,6 @@
 // What a job is: its bandwidth, its options, and its sizes. None of these changes while it is worked.
+//
+// No type here says what is usable, or fits: a bandwidth or a size that is handed over may be anything, and is refused with its number.
 #![tactic(auto)]
 
 ghost use Rattle.std.specs.Prelude.{◌≡◌};
@@ -43,7 +45,7 @@ pub enum GwrCriterion {
 pub struct GwrOptions {
     pub kernel: GwrKernel,
     pub bandwidth: GwrBandwidth,
-    pub optimize_bandwidth: bool,
+    pub optimize_bandwidth: bool, // a flag, as in 000's options
     pub criterion: GwrCriterion,
 }
 

@@ -65,10 +65,7 @@ impl Swept {
         requires { self.sweep.location ≤ 512 }
         ensures { result ≡ solves_of self }
     {
-        match self.stopped {
-            None => self.sweep.location as u64,
-            Some(_) => self.sweep.location as u64 + 1,
-        }
+        self.sweep.location as u64 + u64::from(self.stopped.is_some())
     }
 
     // What a whole sweep ends with: its AICc, or the refusal that it met.
@@ -83,7 +80,8 @@ impl Swept {
     }
 }
 
-// Row i, where rows are written and the location was solved.
+// Row i, where rows are written and the location was solved. Whether they are is told beside the output: no contract can name what an
+// Option of a lent slice holds after the call.
 pub fn write_row(out: &mut [f64], rows: bool, u: Setup, i: usize, outcome: Result<Solved, Refusal>)
     requires sizes { (u.n ≤ 512) × (u.p ≤ 7) × (i < u.n) }
     requires room { RoomFor rows u (length out.old) }
@@ -137,7 +135,7 @@ pub struct Finish {
 }
 
 impl Finish {
-    // The number that a byte call answers: 0 where no refusal was met, else the refusal's.
+    // The number that a byte call answers, as document 01 has it: 0 where no refusal was met, else the refusal's.
     pub fn number(self) -> u32
         ensures { result ≡ finish_number self }
     {
