@@ -4,7 +4,7 @@
 #![tactic(auto)]
 
 ghost use Rattle.std.specs.Prelude.{◌≡◌, ◌≤◌};
-ghost use Rattle.estimate.specs.Estimate.{coefficients_of, from_inverse, coefficients_under, fit_coefficients};
+ghost use Rattle.estimate.specs.Estimate.{coefficients_of, beside, from_inverse, coefficients_under, fit_coefficients};
 
 use refusal::Refusal;
 use setup::Sample;
@@ -36,18 +36,18 @@ fn coefficients_of(a: &[[f64; 16]; 8], rhs: [f64; 8], m: usize) -> [f64; 8]
 }
 
 // The coefficients from an eliminated matrix, whose right half is the inverse.
-fn from_inverse(inverse: [[f64; 16]; 8], rhs: [f64; 8], m: usize) -> Result<Coefficients, Refusal>
+fn from_inverse(inverse: &[[f64; 16]; 8], rhs: [f64; 8], m: usize) -> Result<[f64; 8], Refusal>
     requires { m ≤ 8 }
-    ensures { result ≡ from_inverse inverse rhs m }
+    ensures { beside result inverse.now ≡ from_inverse inverse.now rhs m }
 {
-    if !inverse::inverse_finite(&inverse, m) {
+    if !inverse::inverse_finite(inverse, m) {
         return Err(Refusal::InverseNotFinite);
     }
-    let beta = coefficients_of(&inverse, rhs, m);
+    let beta = coefficients_of(inverse, rhs, m);
     if !real::all_finite(&beta[..m]) {
         return Err(Refusal::CoefficientNotFinite);
     }
-    Ok(Coefficients { beta, inverse })
+    Ok(beta)
 }
 
 // The coefficients of the fit under the weights w.
@@ -56,10 +56,10 @@ fn coefficients_under(sample: &Sample<'_>, w: &[f64; 512]) -> Result<Coefficient
 {
     let m = sample.setup().p + 1;
     let e = normal::equations_of(sample, w);
-    match inverse::invert_matrix(&e.a, m) {
-        Some(inverse) => from_inverse(inverse, e.rhs, m),
-        None => Err(Refusal::Singular),
-    }
+    let mut inverse = [[0.0; 16]; 8];
+    inverse::invert_matrix(&e.a, m, &mut inverse).ok_or(Refusal::Singular)?;
+    let beta = from_inverse(&inverse, e.rhs, m)?;
+    Ok(Coefficients { beta, inverse })
 }
 
 // The same under weights with this sum, which must be above zero.

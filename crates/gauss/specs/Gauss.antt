@@ -77,6 +77,11 @@ try_step n m i (Some a) = gauss_step a i n m
 unfoldable pub eliminated : Matrix → ℕ → ℕ → Option Matrix
 eliminated a n m = range (try_step n m) 0 n (Some a)
 
+-- what a matrix that was lent holds after an elimination that answered so
+abbrev pub left_in : Option Unit → Matrix → Option Matrix
+left_in None a = None
+left_in (Some done) a = Some a
+
 -- ---- examples
 
 module _ where
