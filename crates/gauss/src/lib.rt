@@ -14,6 +14,7 @@ pub struct Pivot {
 }
 
 // The pivot so far, or row k where its cell in column i is larger.
+#[tactic(auto, unfolding(crate::specs::Gauss::pivot_step, crate::specs::Gauss::cell))]
 fn better(a: &[[f64; 16]; 8], i: usize, k: usize, p: Pivot) -> Pivot
     requires { (i < 8) × (k < 8) }
     ensures { result ≡ pivot_step a.now i k p }
@@ -27,6 +28,7 @@ fn better(a: &[[f64; 16]; 8], i: usize, k: usize, p: Pivot) -> Pivot
 }
 
 // The row from i to n - 1 whose cell in column i has the largest magnitude, the first on a tie.
+#[tactic(auto, using(real::proofs::Fold::none, real::proofs::Fold::done), unfolding(crate::specs::Gauss::pivot_of, crate::specs::Gauss::cell))]
 fn find_pivot(a: &[[f64; 16]; 8], i: usize, n: usize) -> Pivot
     requires { (i < n) × (n ≤ 8) }
     ensures { result ≡ pivot_of a.now i n }
@@ -43,6 +45,7 @@ fn find_pivot(a: &[[f64; 16]; 8], i: usize, n: usize) -> Pivot
 }
 
 // The first m cells, each divided by v.
+#[tactic(auto, using(crate::proofs::Rows::untouched, crate::proofs::Rows::cell_set, real::proofs::Fold::done), unfolding(crate::specs::Gauss::div_step, crate::specs::Gauss::div_row))]
 fn div_row(row: &mut [f64; 16], v: f64, m: usize)
     requires { m ≤ 16 }
     ensures { row.new ≡ div_row v m row.old }
@@ -53,6 +56,7 @@ fn div_row(row: &mut [f64; 16], v: f64, m: usize)
 }
 
 // The first m cells, each less v times the cell of `by`.
+#[tactic(auto, using(real::proofs::Fold::none, real::proofs::Fold::done), unfolding(crate::specs::Gauss::less_step, crate::specs::Gauss::less_row))]
 fn less_row(row: &mut [f64; 16], v: f64, by: &[f64; 16], m: usize)
     requires { m ≤ 16 }
     ensures { row.new ≡ less_row v by.now m row.old }
@@ -64,6 +68,7 @@ fn less_row(row: &mut [f64; 16], v: f64, by: &[f64; 16], m: usize)
 }
 
 // Row k less its cell i times row i, `by`; row i itself, and a row whose cell is zero, as they are.
+#[tactic(auto, unfolding(crate::specs::Gauss::clear_row))]
 fn clear_row(row: &mut [f64; 16], by: &[f64; 16], k: usize, i: usize, m: usize)
     requires { (i < 8) × (m ≤ 16) }
     ensures { row.new ≡ clear_row k i by.now m row.old }
@@ -79,6 +84,7 @@ fn clear_row(row: &mut [f64; 16], by: &[f64; 16], k: usize, i: usize, m: usize)
 }
 
 // Column i cleared in every row but row i, which stays: one copy of it serves every row.
+#[tactic(auto, using(real::proofs::Fold::none, crate::proofs::Rows::clearing, real::proofs::Fold::done), unfolding(crate::specs::Gauss::cleared))]
 fn clear(a: &mut [[f64; 16]; 8], i: usize, n: usize, m: usize)
     requires { (i < 8) × (n ≤ 8) × (m ≤ 16) }
     ensures { a.new ≡ cleared i n m a.old }
@@ -91,6 +97,7 @@ fn clear(a: &mut [[f64; 16]; 8], i: usize, n: usize, m: usize)
 }
 
 // One step at column i with the pivot's row p: swapped into place, divided by the pivot, and the column cleared.
+#[tactic(auto, unfolding(crate::specs::Gauss::reduced))]
 fn reduce(a: &mut [[f64; 16]; 8], i: usize, n: usize, m: usize, p: usize)
     requires { (i < n) × (n ≤ 8) × (m ≤ 16) × (p < 8) }
     ensures { a.new ≡ reduced a.old i n m p }
@@ -103,6 +110,7 @@ fn reduce(a: &mut [[f64; 16]; 8], i: usize, n: usize, m: usize, p: usize)
 
 // The elimination over n rows and m columns: none where a pivot is below 1e-12, that is, the matrix is singular. In place, since a
 // matrix in an `Option` is copied by each that hands it on, which a fit of few observations pays for.
+#[tactic(auto, using(real::proofs::Fold::none, crate::proofs::Pivoting::stopped, crate::proofs::Pivoting::pivot_row, real::proofs::Fold::done), unfolding(crate::specs::Gauss::try_step, crate::specs::Gauss::gauss_step, crate::specs::Gauss::eliminated))]
 pub fn eliminate(a: &mut [[f64; 16]; 8], n: usize, m: usize) -> Option<()>
     requires { (n ≤ 8) × (m ≤ 16) }
     ensures { left_in result a.new ≡ eliminated a.old n m }
