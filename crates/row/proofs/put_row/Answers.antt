@@ -5,22 +5,6 @@ use Rattle.row.specs.Row.{row_of, put_row}
 use Rattle.row.proofs.Copies.{row_within, tail_put, tail_long}
 use Rattle.row.proofs.put_row.Goals as goal
 
-pub overflow_mul-at : goal.overflow_mul-at
-overflow_mul-at c = omega (arith, (row_within c.args.i c.args.n (c.args.m + 3) c.requires.1))
-
-pub offset_bounds-out-at : goal.offset_bounds-out-at
-offset_bounds-out-at c = omega (arith, (row_within c.args.i c.args.n (c.args.m + 3) c.requires.1))
-
-pub slice_bounds-write_row-count : goal.slice_bounds-write_row-count
-slice_bounds-write_row-count c = omega (arith, (row_within c.args.i c.args.n (c.args.m + 3) c.requires.1))
-
-pub slice_bounds-write_row-start : goal.slice_bounds-write_row-start
-slice_bounds-write_row-start c = omega (arith, (row_within c.args.i c.args.n (c.args.m + 3) c.requires.1))
-
-pub write_row-requires : goal.write_row-requires
-write_row-requires c =
-    (c.requires.0, rw tail_long (omega (arith, (row_within c.args.i c.args.n (c.args.m + 3) c.requires.1))))
-
 pub returns : goal.returns
 unfolding put_row
 returns c =

@@ -15,12 +15,6 @@ pub loop-i-init : goal.loop-i-init
 loop-i-init c =
     (none (omega arith), ap (λ (s : Sweep). s.location) c.new-sweep.ensures, refl)
 
-pub next-sweep-requires : goal.next-sweep-requires
-next-sweep-requires c =
-    let n = ap (λ (u : Setup). u.n) c.setup-u.ensures.setup in
-    let added = ap (λ (s : Sweep). s.location) c.add.ensures in
-    omega (arith, n, added, c.loop-i.invariant.1, c.setup-u.ensures.shaped.sized.few)
-
 pub loop-i-preserved : goal.loop-i-preserved
 loop-i-preserved c =
     let n = ap (λ (u : Setup). u.n) c.setup-u.ensures.setup in
