@@ -23,6 +23,7 @@ pub struct Coefficients {
 }
 
 // The coefficients: the inverse times the right-hand side.
+#[tactic(auto, using(real::proofs::Fold::none, real::proofs::Fold::done), unfolding(crate::specs::Estimate::coefficient_step, crate::specs::Estimate::coefficients_of))]
 fn coefficients_of(a: &[[f64; 16]; 8], rhs: [f64; 8], m: usize) -> [f64; 8]
     requires { m ≤ 8 }
     ensures { result ≡ coefficients_of a.now rhs m }
@@ -36,6 +37,7 @@ fn coefficients_of(a: &[[f64; 16]; 8], rhs: [f64; 8], m: usize) -> [f64; 8]
 }
 
 // The coefficients from an eliminated matrix, whose right half is the inverse.
+#[tactic(auto, using(crate::proofs::Lengths::coefficients_eight, crate::proofs::Products::coefficients_tested), unfolding(crate::specs::Estimate::from_inverse))]
 fn from_inverse(inverse: &[[f64; 16]; 8], rhs: [f64; 8], m: usize) -> Result<[f64; 8], Refusal>
     requires { m ≤ 8 }
     ensures { beside result inverse.now ≡ from_inverse inverse.now rhs m }
@@ -51,6 +53,7 @@ fn from_inverse(inverse: &[[f64; 16]; 8], rhs: [f64; 8], m: usize) -> Result<[f6
 }
 
 // The coefficients of the fit under the weights w.
+#[tactic(auto, using(checks::proofs::Tests::handed_on, crate::proofs::Eliminations::singular, crate::proofs::Eliminations::regular), unfolding(crate::specs::Estimate::eliminated_of, crate::specs::Estimate::coefficients_under))]
 fn coefficients_under(sample: &Sample<'_>, w: &[f64; 512]) -> Result<Coefficients, Refusal>
     ensures { result ≡ coefficients_under sample.now.setup sample.now.columns w.now }
 {
@@ -63,6 +66,7 @@ fn coefficients_under(sample: &Sample<'_>, w: &[f64; 512]) -> Result<Coefficient
 }
 
 // The same under weights with this sum, which must be above zero.
+#[tactic(auto, unfolding(crate::specs::Estimate::fit_coefficients))]
 pub fn fit_coefficients(
     sample: &Sample<'_>,
     w: &[f64; 512],

@@ -27,6 +27,7 @@ pub struct Squares {
 }
 
 // The fitted value of an observation: the coefficients times its design row, read where its predictors stand.
+#[tactic(auto, using(crate::proofs::Sums::fitted_is))]
 fn fitted(beta: &[f64; 8], own: &[f64]) -> f64
     requires { length own.now ≤ 7 }
     ensures { result ≡ inner_product beta.now (design_of own.now) (length own.now + 1) }
@@ -35,6 +36,7 @@ fn fitted(beta: &[f64; 8], own: &[f64]) -> f64
 }
 
 // The i-th diagonal element of the hat matrix, from the location's design row and own weight.
+#[tactic(auto, using(real::proofs::Fold::none, real::proofs::Fold::done), unfolding(crate::specs::Evaluate::quad_step, crate::specs::Evaluate::hat_diagonal))]
 fn hat_diagonal(inverse: &[[f64; 16]; 8], row: [f64; 8], own: f64, m: usize) -> f64
     requires { m ≤ 8 }
     ensures { result ≡ hat_diagonal inverse.now row own m }
@@ -60,6 +62,7 @@ fn add_squares(s: Squares, w: f64, y: f64, mean: f64, fitted: f64) -> Squares
 }
 
 // Both sums of squares over observations in order, leaving out weight 0.
+#[tactic(auto, using(real::proofs::Fold::none, crate::proofs::Sums::fitted_at, real::proofs::Fold::done), unfolding(crate::specs::Evaluate::squares_step, crate::specs::Evaluate::sum_squares))]
 fn sum_squares(sample: &Sample<'_>, w: &[f64; 512], beta: [f64; 8], mean: f64) -> Squares
     ensures { result ≡ sum_squares sample.now.setup sample.now.columns w.now beta mean }
 {
@@ -82,6 +85,7 @@ fn sum_squares(sample: &Sample<'_>, w: &[f64; 512], beta: [f64; 8], mean: f64) -
 }
 
 // The share of the weighted variation that the fit explains.
+#[tactic(auto, unfolding(crate::specs::Evaluate::explained_share))]
 fn explained_share(s: Squares) -> f64
     ensures { result ≡ explained_share s }
 {
@@ -93,6 +97,7 @@ fn explained_share(s: Squares) -> f64
 }
 
 // 000's `local_r_squared`, of a fit with these coefficients under weights with this sum.
+#[tactic(auto, using(crate::proofs::Sums::weighted_is), unfolding(crate::specs::Evaluate::local_r_squared))]
 fn local_r_squared(sample: &Sample<'_>, w: &[f64; 512], beta: [f64; 8], sum: f64) -> f64
     ensures { result ≡ local_r_squared sample.now.setup sample.now.columns w.now beta sum }
 {

@@ -14,6 +14,7 @@ pub struct Equations {
 }
 
 // Adds wx times predictor q to row[q + 1], for q from `from` on. The design row is read where its predictors stand.
+#[tactic(auto, using(real::proofs::Fold::none, crate::proofs::DesignCells::own_next, real::proofs::Fold::done), unfolding(crate::specs::Equations::cell_step, crate::specs::Equations::add_row))]
 fn add_row(row: &mut [f64; 8], wx: f64, own: &[f64], from: usize)
     requires { (length own.now ≤ 7) × (from ≤ length own.now) }
     ensures { row.new ≡ add_row wx (design_of own.now) (from + 1) (length own.now + 1) row.old }
@@ -25,6 +26,7 @@ fn add_row(row: &mut [f64; 8], wx: f64, own: &[f64], from: usize)
 }
 
 // The same of row 0, which has a cell for the 1 of the design row too.
+#[tactic(auto, using(crate::proofs::DesignCells::row_front))]
 fn add_first_row(row: &mut [f64; 8], wx: f64, own: &[f64])
     requires { length own.now ≤ 7 }
     ensures { row.new ≡ add_row wx (design_of own.now) 0 (length own.now + 1) row.old }
@@ -34,6 +36,7 @@ fn add_first_row(row: &mut [f64; 8], wx: f64, own: &[f64])
 }
 
 // Adds an observation of weight w, response y and these predictors to the equations.
+#[tactic(auto, using(real::proofs::Fold::none, crate::proofs::DesignCells::own_next, real::proofs::Fold::done, crate::proofs::DesignCells::observe_front), unfolding(crate::specs::Equations::observe_step, crate::specs::Equations::observe))]
 fn observe(e: &mut Equations, w: f64, y: f64, own: &[f64])
     requires { length own.now ≤ 7 }
     ensures { e.new ≡ observe w (design_of own.now) y (length own.now + 1) e.old }
@@ -50,6 +53,7 @@ fn observe(e: &mut Equations, w: f64, y: f64, own: &[f64])
 }
 
 // The weighted normal equations over observations in order, leaving out weight 0.
+#[tactic(auto, using(real::proofs::Fold::none, crate::proofs::DesignCells::observed, real::proofs::Fold::done), unfolding(crate::specs::Equations::normal_step, crate::specs::Equations::equations_of))]
 pub fn equations_of(sample: &Sample<'_>, w: &[f64; 512]) -> Equations
     ensures { result ≡ equations_of sample.now.setup sample.now.columns w.now }
 {

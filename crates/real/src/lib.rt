@@ -89,6 +89,7 @@ pub fn all_in_unit(s: &[f64]) -> bool
 
 // The size of x: Rust's `f64::abs`. Where x <= 0.0 the difference is exact, and it is +0 for a zero of either sign. The library's
 // branches on the sign, and a walk down a column of `gauss` by it takes three times as long.
+#[tactic(auto, using(crate::proofs::Values::size_below, crate::proofs::Values::size_above))]
 pub fn abs(x: f64) -> f64
     ensures { result ≡ magnitude x }
 {
@@ -121,6 +122,7 @@ pub fn clamp_unit(x: f64) -> f64
 }
 
 // The whole number nearest to x, halves up, for x above 0 and below 2^32: there x less its whole part is exact.
+#[tactic(auto, using(crate::proofs::Values::above_minus_one, crate::proofs::Values::below_top, crate::proofs::Rounding::by_rest, crate::proofs::Values::cut_small, crate::proofs::Rounding::by_rest_lem))]
 fn rounded(x: f64) -> u64
     requires positive { T (lt zero64 x) }
     requires below_2_to_32 { T (lt x (from_bits binary64 0x41F0_0000_0000_0000)) }

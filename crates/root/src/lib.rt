@@ -67,6 +67,7 @@ fn positive(x: f64, y: f64) -> f64
 
 // The square root, whatever y is, and fast where y is `guess` of x. Roots of many numbers are faster where all are guessed first:
 // a guess waits for divisions, and settling one for nothing else.
+#[tactic(auto, unfolding(crate::specs::Root::root))]
 pub fn sqrt_near(x: f64, y: f64) -> f64
     ensures { result ≡ root x }
 {

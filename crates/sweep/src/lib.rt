@@ -95,6 +95,7 @@ pub fn write_row(out: &mut [f64], rows: bool, u: Setup, i: usize, outcome: Resul
 }
 
 // 000's `fit_all_locations`: locations 0 to n - 1 in order, up to the first refusal, with their rows or, in a trial, without.
+#[tactic(auto, using(real::proofs::Fold::none, crate::proofs::Sweeps::after_found, crate::proofs::Sweeps::visit_going, crate::proofs::Sweeps::stopped_rest, real::proofs::Fold::done), unfolding(crate::specs::Sweep::fit_all_locations))]
 pub fn fit_all_locations(
     problem: &Problem<'_>,
     b: GwrBandwidth,

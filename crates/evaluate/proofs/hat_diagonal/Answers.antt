@@ -4,13 +4,6 @@ use Rattle.real.proofs.Fold.{none, more, done}
 use Rattle.evaluate.specs.Evaluate.{quad_step, hat_diagonal}
 use Rattle.evaluate.proofs.hat_diagonal.Goals as goal
 
-pub loop-p-init : goal.loop-p-init
-loop-p-init c = none (search rules)
-
 pub loop-p-preserved : goal.loop-p-preserved
 unfolding quad_step
 loop-p-preserved c = more c.loop-p.invariant (search rules) (rw c.inverse_times.ensures)
-
-pub returns : goal.returns
-unfolding hat_diagonal
-returns c = rw (done c.loop-p.invariant (search rules))

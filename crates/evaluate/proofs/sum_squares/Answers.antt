@@ -7,9 +7,6 @@ use Rattle.evaluate.proofs.Sums.{fitted_at}
 use Rattle.evaluate.specs.Evaluate.{squares_step, sum_squares}
 use Rattle.evaluate.proofs.sum_squares.Goals as goal
 
-pub loop-j-init : goal.loop-j-init
-loop-j-init c = none (omega arith)
-
 -- left out
 pub loop-j-preserved-then-w-j : goal.loop-j-preserved-then-w-j
 unfolding squares_step
@@ -24,7 +21,3 @@ loop-j-preserved c =
     let own = rw (c.predictors-x.ensures.predictors, c.setup-u.ensures.setup) at c.predictors_of-own.ensures in
     let f = fitted_at q.columns.predictors q.setup.n q.setup.p c.loop-j.j c.setup-u.ensures.shaped.rows (omega (arith, n)) own _ c.fitted.ensures in
     more c.loop-j.invariant (omega (arith, n)) (c.add_squares-s.ensures ∙ rw (c.if-w-j.false, f, c.responses-y.ensures))
-
-pub returns : goal.returns
-unfolding sum_squares
-returns c = let n = ap (λ (u : Setup). u.n) c.setup-u.ensures.setup in done c.loop-j.invariant (omega (arith, n))

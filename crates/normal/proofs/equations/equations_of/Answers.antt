@@ -7,9 +7,6 @@ use Rattle.real.proofs.Fold.{none, more, done}
 use Rattle.normal.specs.Equations.{normal_step, equations_of}
 use Rattle.normal.proofs.equations.equations_of.Goals as goal
 
-pub loop-j-init : goal.loop-j-init
-loop-j-init c = none (omega arith)
-
 -- left out
 pub loop-j-preserved-then-w-j : goal.loop-j-preserved-then-w-j
 unfolding normal_step
@@ -24,7 +21,3 @@ loop-j-preserved c =
     let own = rw (c.predictors-x.ensures.predictors, c.setup-u.ensures.setup) at c.predictors_of.ensures in
     more c.loop-j.invariant (omega (arith, n))
     (observed q.columns.predictors q.setup.n q.setup.p c.loop-j.j c.setup-u.ensures.shaped.rows (omega (arith, n)) own _ _ _ c.observe.ensures ∙ rw (c.if-w-j.false, c.responses-y.ensures))
-
-pub returns : goal.returns
-unfolding equations_of
-returns c = let n = ap (λ (u : Setup). u.n) c.setup-u.ensures.setup in done c.loop-j.invariant (omega (arith, n))
