@@ -5,9 +5,9 @@ use Rattle.root.specs.Root.{root}
 use Rattle.root.proofs.Nearest.{root_is, root_end}
 use Rattle.root.proofs.sqrt_near.Goals as goal
 
-pub positive-requires : goal.positive-requires
+pub positive-requires-clause-below_infinity : goal.positive-requires-clause-below_infinity
 unfolding of_bits
-positive-requires c = record { above_zero = c.if-x.true; below_infinity = c.if-x-2.true }
+positive-requires-clause-below_infinity c = c.if-x-2.true
 
 pub returns-then-x-2 : goal.returns-then-x-2
 unfolding of_bits
