@@ -19,10 +19,8 @@ pub fn weigh(problem: &Problem<'_>, place: Place, b: f64, w: &mut [f64; 512]) ->
     let coords = problem.coords();
     let trusts = problem.trusts();
     let kernel = problem.setup().options.kernel;
-    let reach = kernel.reach(b);
-    if reach.is_nan() {
-        near::weigh_all(coords, trusts, kernel, place, b, w)
-    } else {
-        near::weigh_within(coords, trusts, kernel, place, b, reach, w)
+    match kernel.reach(b) {
+        Some(reach) => near::weigh_within(coords, trusts, kernel, place, b, reach, w),
+        None => near::weigh_all(coords, trusts, kernel, place, b, w),
     }
 }
