@@ -13,20 +13,12 @@ pub fn greatest_distance(coords: &[f64], n: usize) -> f64
     requires { (length coords.now ≡ 2 * n) × (n ≤ 512) }
     ensures { result ≡ greatest_distance coords.now n }
 {
-    let (pantries, _) = coords.as_chunks::<2>();
     let mut most = 0.0;
-    // An index: each pantry is held against those behind it.
+    // By numbers: pairs i < j, whose places are read by them.
     for i in 0..n {
-        let here = Place {
-            east: pantries[i][0],
-            north: pantries[i][1],
-        };
-        for there in &pantries[i + 1..] {
-            let there = Place {
-                east: there[0],
-                north: there[1],
-            };
-            most = real::max(most, here.distance(there));
+        let here = Place::at(coords, i);
+        for j in i + 1..n {
+            most = real::max(most, here.distance(Place::at(coords, j)));
         }
     }
     most
