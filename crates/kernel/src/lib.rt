@@ -46,7 +46,7 @@ impl GwrKernel {
     }
 }
 
-// The kernel of a number: 0, 1 and 2 are known, and 18 refuses the others.
+// The kernel of a number, as C and bytes have it: 0, 1 and 2 are known, and 18 refuses the others.
 impl TryFrom<u64> for GwrKernel {
     type Error = Refusal;
 

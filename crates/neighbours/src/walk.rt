@@ -6,6 +6,7 @@ use kernel::Place;
 use std::marker::Model;
 
 // A walk: its sums of squares stand at the front, in order, zeros behind them, and how many they are and the greatest of them beside.
+// Room for 512, the most pantries, since no heap is used.
 #[derive(Clone, Copy)]
 pub struct Walker {
     buffer: [f64; 512],

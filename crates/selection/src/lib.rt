@@ -1,12 +1,13 @@
 // Which of some numbers is the m-th smallest, by counting: how many are at most a number, and how many below it.
+// `length s < 2 ^ 32`, which the sum of `count` and `real::from_count` ask, is a clause: a type would have each caller make one.
 #![tactic(auto)]
 
 ghost use Rattle.std.specs.Prelude.{◌≡◌, ◌^◌, ◌⊎◌, ◌≤◌, ◌<◌, T, Bool, Float, length, count_by};
 ghost use Rattle.std.specs.Float.Ieee.{le, lt};
 ghost use Rattle.selection.specs.Kth.{is_kth, kth_smallest};
 
-// How many of s pass a test, which p tells of. A sum, since `filter(..).count()` branches at each number, which takes three times as
-// long.
+// How many of s pass the test, by any p that says what it answers. A sum, since `filter(..).count()` branches at each number, which
+// takes three times as long.
 fn count<F: Fn(f64) -> bool>(s: &[f64], test: F) -> usize
     requires few { length s.now < 2 ^ 32 }
     requires test { F.IsAlwaysCallable test }
