@@ -86,7 +86,7 @@ pub fn plan_options(coords: &[f64], u: Setup) -> Result<Plan, Refusal>
     let options = u.options;
     let bandwidth = options.bandwidth;
     if seeks_distance(options.optimize_bandwidth, bandwidth) {
-        return plan_options_at(u, greatest_distance(coords, u.n));
+        return plan_options_at(u, greatest_distance(coords));
     }
     plan_options_at(u, 0.0)
 }

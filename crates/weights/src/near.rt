@@ -11,6 +11,7 @@ use kernel::{GwrKernel, Place};
 fn guess_all(coords: &[f64], place: Place, y: &mut [f64])
     requires { 2 * length y.old ≤ length coords.now }
 {
+    // By numbers, here and below: a place is two of coords for one of y, and what a zip of them writes is not known behind it.
     for (j, d) in y.iter_mut().enumerate() {
         *d = place.guess_distance(Place::at(coords, j));
     }
@@ -62,7 +63,8 @@ pub fn weigh_all(
     sum
 }
 
-// The same, for the reach of the kernel at bandwidth b: no root is taken beyond it.
+// The same, for the reach of the kernel at bandwidth b: no root is taken beyond it. Apart from `weigh_all`, whose passes take every
+// root before they weigh.
 pub fn weigh_within(
     coords: &[f64],
     trusts: &[f64],
@@ -77,6 +79,7 @@ pub fn weigh_within(
     ensures { (w.new, result) ≡ near_weights kernel coords.now trusts.now (length trusts.now) place.east place.north b w.old }
 {
     let mut sum = 0.0;
+    // By an index, as in `weigh_all`.
     for j in 0..trusts.len() {
         let s = place.squares(Place::at(coords, j));
         let v = kernel.weight_within(s, b, reach) * trusts[j];
