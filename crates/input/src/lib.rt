@@ -141,48 +141,43 @@ pub fn lengths_fit(columns: &Columns<'_>, u: Setup) -> bool
 }
 
 // Whether a distance is given that cannot be used.
-fn unusable_given(searched: bool, bandwidth: GwrBandwidth) -> bool
-    ensures { result ≡ unusable_given searched bandwidth }
+#[tactic(auto, unfolding(crate::specs::Checks::unusable_given))]
+fn unusable_given(options: GwrOptions) -> bool
+    ensures { result ≡ unusable_given options.optimize_bandwidth options.bandwidth }
 {
-    if searched {
+    if options.optimize_bandwidth {
         return false;
     }
-    match bandwidth {
+    match options.bandwidth {
         GwrBandwidth::Fixed(b) => !usable_distance(b),
         GwrBandwidth::AdaptiveKnn(_) => false,
     }
 }
 
 // Whether a distance is sought.
-pub fn seeks_distance(searched: bool, bandwidth: GwrBandwidth) -> bool
-    ensures { result ≡ seeks_distance searched bandwidth }
+#[tactic(auto, unfolding(crate::specs::Checks::seeks_distance))]
+pub fn seeks_distance(options: GwrOptions) -> bool
+    ensures { result ≡ seeks_distance options.optimize_bandwidth options.bandwidth }
 {
-    if searched {
-        return match bandwidth {
-            GwrBandwidth::Fixed(_) => true,
-            GwrBandwidth::AdaptiveKnn(_) => false,
-        };
-    }
-    false
+    options.optimize_bandwidth && matches!(options.bandwidth, GwrBandwidth::Fixed(_))
 }
 
 // Whether a distance is sought and there is none to seek.
-fn nothing_between(searched: bool, bandwidth: GwrBandwidth, hi: f64) -> bool
-    ensures { result ≡ nothing_between searched bandwidth hi }
+#[tactic(auto, unfolding(crate::specs::Checks::nothing_between))]
+fn nothing_between(options: GwrOptions, hi: f64) -> bool
+    ensures { result ≡ nothing_between options.optimize_bandwidth options.bandwidth hi }
 {
-    seeks_distance(searched, bandwidth) & !usable_distance(hi)
+    seeks_distance(options) && !usable_distance(hi)
 }
 
 // Refusals 11 and 12, where hi is the greatest pair distance.
 pub fn check_options(options: GwrOptions, hi: f64) -> Result<(), Refusal>
     ensures { result ≡ judge (option_tests_at options hi) }
 {
-    let searched = options.optimize_bandwidth;
-    let bandwidth = options.bandwidth;
-    if unusable_given(searched, bandwidth) {
+    if unusable_given(options) {
         return Err(Refusal::UnusableDistance);
     }
-    if nothing_between(searched, bandwidth, hi) {
+    if nothing_between(options, hi) {
         return Err(Refusal::NoDistanceRange);
     }
     Ok(())

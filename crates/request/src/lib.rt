@@ -11,7 +11,7 @@ use kernel::GwrKernel;
 use refusal::Refusal;
 use setup::{GwrBandwidth, GwrOptions};
 
-// Kind 0 is a distance and 1 a count; 2 and 3 are the same, searched. A number, as it crosses the C interface.
+// Kind 0 is a distance and 1 a count; 2 and 3 are the same, searched. A number, as it crosses the C interface: it is an enum from here on.
 #[tactic(auto, unfolding(crate::specs::Options::kind_of))]
 fn kind_of(kernel: GwrKernel, kind: u64, bandwidth: u64) -> Result<GwrOptions, Refusal>
     ensures { result ≡ kind_of kernel kind bandwidth }
@@ -69,12 +69,13 @@ pub fn check_bytes(coords: usize, x: usize, y: usize, p: u64) -> Result<(), Refu
     check_part_bytes(x, y, n, p as usize)
 }
 
-// The number of an answer, for the C interface: 0 where nothing is refused.
+// The number of an answer, for the C interface: 0 where nothing is refused. No two refusals share one (refusal/proofs/Distinct
+// `number_tells`), so it tells the answer (proofs/Answers `answer_tells`). `Finish::number` is the same of an Option.
 pub fn answer_number(answer: Result<(), Refusal>) -> u32
     ensures { result ≡ answer_number answer }
 {
     match answer {
         Ok(()) => 0,
-        Err(r) => r.number(),
+        Err(r) => u32::from(r),
     }
 }
