@@ -74,14 +74,15 @@ fn observation_good(v: f64, east: f64, north: f64, trust: f64) -> bool
     (z <= trust) & (trust <= 1.0)
 }
 
-// Whether all observations are good. By an index: coordinates stand two by two beside responses and trusts.
+// Whether all observations are good.
 fn observations_good(coords: &[f64], y: &[f64], trust: &[f64]) -> bool
     requires { (length coords.now ≡ 2 * length y.now) × (length trust.now ≡ length y.now) }
     ensures { result ≡ (all_finite y.now && all_finite coords.now && all_in_unit trust.now) }
 {
+    let (places, _) = coords.as_chunks::<2>();
     let mut good = true;
-    for i in 0..y.len() {
-        let here = observation_good(y[i], coords[2 * i], coords[2 * i + 1], trust[i]);
+    for ((place, v), t) in places.iter().zip(y).zip(trust) {
+        let here = observation_good(*v, place[0], place[1], *t);
         good &= here;
     }
     good
