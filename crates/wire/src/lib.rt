@@ -20,7 +20,8 @@ pub fn real_of(bits: u64) -> f64
     f64_from_bits_with_nan(bits)
 }
 
-// Eight bytes as a number, the lowest first.
+// Eight bytes as a number, the lowest first. At a place, not of a slice: a header and a summary are read at 0, 8, 16 and on, and each
+// reader would cut the slice.
 pub fn load(s: &[u8], at: usize) -> u64
     requires { at + 8 ≤ length s.now }
     ensures { result ≡ load_of s.now at }
@@ -28,7 +29,7 @@ pub fn load(s: &[u8], at: usize) -> u64
     u64::from_le_bytes(*s[at..].first_chunk::<8>().unwrap())
 }
 
-// The number as eight bytes, the lowest first.
+// The number as eight bytes, the lowest first, at a place as `load` reads it.
 pub fn store(s: &mut [u8], at: usize, v: u64)
     requires { at + 8 ≤ length s.old }
     ensures { s.new ≡ take at s.old ++ (bytes_of v ++ drop (at + 8) s.old) }
