@@ -1,8 +1,8 @@
 // The fit call on bytes.
 #![tactic(auto)]
 
-ghost use Rattle.std.specs.Prelude.{◌≡◌, ◌+◌, ◌*◌, ◌/◌, ◌≤◌, ◌<◌, length, take};
-ghost use Rattle.wire.specs.Wire.{real_bytes, placed};
+ghost use Rattle.std.specs.Prelude.{◌≡◌, ◌+◌, ◌*◌, ◌/◌, ◌≤◌, ◌<◌, length};
+ghost use Rattle.wire.specs.Wire.{placed};
 ghost use Rattle.calls.specs.Calls.{room_of, summary_bytes, fitted_bytes, fit_parts, fit_bytes, Offered};
 ghost use Rattle.request.specs.Answer.{answer_number};
 ghost use Rattle.request.specs.Lengths.{ByteLengths};
@@ -35,14 +35,6 @@ fn store_summary(s: &mut [u8], v: Summary)
     wire::store(&mut *s, 16, v.solves);
 }
 
-// The first `count` numbers of the rows, as bytes.
-fn store_rows(rows: &[f64], count: usize, out: &mut [u8])
-    requires { (count ≤ length rows.now) × (8 * count ≤ length out.old) }
-    ensures { out.new ≡ placed out.old 0 (real_bytes (take count rows.now)) }
-{
-    wire::encode(&rows[..count], out);
-}
-
 // The fit of decoded numbers, with `rows` as its output. Rows and summary go out as bytes, unless the input was refused.
 fn fitted_bytes(
     columns: &Columns<'_>,
@@ -56,7 +48,7 @@ fn fitted_bytes(
     ensures { (answer_number result, (out.new, summary.new)) ≡ fitted_bytes p (gwr_fit columns.now p options rows.old) out.old summary.old }
 {
     let fit = gwr::gwr_fit(columns, p, options, &mut *rows)?;
-    store_rows(&*rows, fit.rows * (p + 4), out);
+    wire::encode(&rows[..fit.rows * (p + 4)], out);
     store_summary(summary, fit.finish.summary);
     match fit.finish.refusal {
         Some(r) => Err(r),

@@ -9,6 +9,7 @@ ghost use Rattle.criterion.specs.Aicc.{pi64, corrected_aic, criterion_of, exhaus
 
 use refusal::Refusal;
 use setup::{GwrCriterion, Setup};
+use std::f64::consts::PI;
 
 // What a fit reports beside its rows.
 #[derive(Clone, Copy)]
@@ -92,6 +93,6 @@ fn aicc_formula(nf: f64, sigma: f64, trace: f64, d: f64) -> f64
     ensures { result ≡ aicc_formula rounded pi64 lnv nf sigma trace }
 {
     let fit = (2.0 * nf) * elementary::ln(sigma);
-    let constant = nf * elementary::ln(2.0 * 3.141592653589793);
+    let constant = nf * elementary::ln(2.0 * PI);
     (fit + constant) + (nf * (nf + trace)) / d
 }

@@ -83,9 +83,7 @@ pub fn plan_options(coords: &[f64], u: Setup) -> Result<Plan, Refusal>
     requires sized { Sized u }
     ensures { result ≡ plan_options_at u (greatest_distance coords.now u.n) }
 {
-    let options = u.options;
-    let bandwidth = options.bandwidth;
-    if seeks_distance(options.optimize_bandwidth, bandwidth) {
+    if seeks_distance(u.options) {
         return plan_options_at(u, greatest_distance(coords, u.n));
     }
     plan_options_at(u, 0.0)
