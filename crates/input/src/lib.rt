@@ -15,6 +15,7 @@ use refusal::Refusal;
 use setup::{Columns, GwrBandwidth, GwrOptions, Setup};
 
 // Refusals 1 to 7: the lengths of the slices and the number of predictors.
+#[tactic(auto, unfolding(crate::specs::Checks::shape_tests, checks::specs::Judge::judge))]
 fn check_shape(coords: usize, x: usize, y: usize, trusts: usize, p: usize) -> Result<(), Refusal>
     ensures { result ≡ judge (shape_tests coords x y trusts p) }
 {
@@ -47,6 +48,7 @@ fn check_shape(coords: usize, x: usize, y: usize, trusts: usize, p: usize) -> Re
 }
 
 // Refusals 8 to 10, a response, coordinate or predictor that is not finite, and 26, a trust that is not in 0..1.
+#[tactic(auto, unfolding(crate::specs::Checks::value_tests, checks::specs::Judge::judge))]
 pub fn check_values(columns: &Columns<'_>) -> Result<(), Refusal>
     ensures { result ≡ judge (value_tests columns.now) }
 {
@@ -67,6 +69,7 @@ pub fn check_values(columns: &Columns<'_>) -> Result<(), Refusal>
 
 // Whether an observation's numbers are finite and its trust lies from 0 to 1. A zero that is multiplied by a number is NaN where that is
 // not finite, and NaN is at most nothing.
+#[tactic(auto, using(crate::proofs::Observations::good_is))]
 fn observation_good(v: f64, east: f64, north: f64, trust: f64) -> bool
     ensures { result ≡ (finite v && finite east && finite north && in_unit trust) }
 {
@@ -98,6 +101,7 @@ pub fn values_good(columns: &Columns<'_>) -> bool
 }
 
 // Refusal 13: an output with no room for n rows.
+#[tactic(auto, unfolding(crate::specs::Checks::output_tests, checks::specs::Judge::judge))]
 fn check_output(n: usize, p: usize, out: usize) -> Result<(), Refusal>
     requires { (n ≤ 512) × (p ≤ 7) }
     ensures { result ≡ judge (output_tests n p out) }
@@ -117,6 +121,7 @@ pub fn check_room(u: Setup, out: usize) -> Result<(), Refusal>
 }
 
 // Refusals 1 to 7, 8 to 10, 26 and 13. `out` is the output's length.
+#[tactic(auto, using(checks::proofs::Judge::judge_append, crate::proofs::Accepted::shape_counts), unfolding(crate::specs::Checks::input_tests, checks::specs::Judge::ruled))]
 pub fn check_input(columns: &Columns<'_>, p: usize, out: usize) -> Result<(), Refusal>
     ensures { result ≡ judge (input_tests columns.now p out) }
 {
@@ -132,6 +137,7 @@ pub fn check_input(columns: &Columns<'_>, p: usize, out: usize) -> Result<(), Re
 }
 
 // Whether the slices have the lengths that the job's sizes say.
+#[tactic(auto, unfolding(crate::specs::Checks::lengths_fit))]
 pub fn lengths_fit(columns: &Columns<'_>, u: Setup) -> bool
     requires { Sized u }
     ensures { result ≡ lengths_fit u columns.now }
@@ -172,6 +178,7 @@ fn nothing_between(options: GwrOptions, hi: f64) -> bool
 }
 
 // Refusals 11 and 12, where hi is the greatest pair distance.
+#[tactic(auto, unfolding(crate::specs::Checks::option_tests_at, checks::specs::Judge::judge))]
 pub fn check_options(options: GwrOptions, hi: f64) -> Result<(), Refusal>
     ensures { result ≡ judge (option_tests_at options hi) }
 {
