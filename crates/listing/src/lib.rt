@@ -33,6 +33,7 @@ fn print_answer(
 }
 
 // The text of a job whose parts are whole, with `out` and `summary` lent to the fit.
+#[tactic(auto, using(calls::proofs::Bytes::part_long, crate::proofs::Texts::part_is), unfolding(crate::specs::Jobs::whole_text, crate::specs::Jobs::call_of_parts))]
 fn print_whole(h: Head, parts: &[u8], out: &mut [u8], summary: &mut [u8], text: &mut [u8]) -> usize
     requires whole { (h.n ≤ 512) × (h.p ≤ 7) × (responses_end h.n h.p ≤ length parts.now) }
     requires room { (45056 ≤ length out.old) × (24 ≤ length summary.old) × (102400 ≤ length text.old) }

@@ -28,6 +28,7 @@ fn kind_of(kernel: GwrKernel, kind: u64, bandwidth: u64) -> Result<GwrOptions, R
 }
 
 // The options of the numbers of kernel and kind, and of the bandwidth's bits or count; 18 refuses an unknown number.
+#[tactic(auto, using(crate::proofs::Options::kernel_named, crate::proofs::Options::kernel_unnamed))]
 pub fn options_of(kernel: u64, kind: u64, bandwidth: u64) -> Result<GwrOptions, Refusal>
     ensures { result ≡ options_of kernel kind bandwidth }
 {
@@ -36,6 +37,7 @@ pub fn options_of(kernel: u64, kind: u64, bandwidth: u64) -> Result<GwrOptions, 
 }
 
 // Refusals 5 and 6 of byte lengths.
+#[tactic(auto, unfolding(crate::specs::Lengths::part_tests, checks::specs::Judge::judge))]
 fn check_part_bytes(x: usize, y: usize, n: usize, p: usize) -> Result<(), Refusal>
     requires { (n ≤ 512) × (p ≤ 7) }
     ensures { result ≡ judge (part_tests x y n p) }
@@ -50,6 +52,7 @@ fn check_part_bytes(x: usize, y: usize, n: usize, p: usize) -> Result<(), Refusa
 }
 
 // Refusals 1 to 6 of byte lengths; p is a number of predictors.
+#[tactic(auto, unfolding(crate::specs::Lengths::byte_tests, crate::specs::Lengths::part_tests, checks::specs::Judge::judge))]
 pub fn check_bytes(coords: usize, x: usize, y: usize, p: u64) -> Result<(), Refusal>
     ensures { result ≡ judge (byte_tests coords x y p) }
 {
