@@ -13,6 +13,7 @@ use refusal::Refusal;
 use setup::{Columns, GwrOptions};
 
 // How many numbers the fit may write: n rows, or none where output or summary has too few bytes.
+#[tactic(auto, unfolding(crate::specs::Calls::room_of))]
 fn room_of(n: usize, p: usize, out: usize, summary: usize) -> usize
     requires { (n ≤ 512) × (p ≤ 7) }
     ensures { result ≡ room_of n p out summary }
@@ -26,6 +27,7 @@ fn room_of(n: usize, p: usize, out: usize, summary: usize) -> usize
     n * (p + 4)
 }
 
+#[tactic(auto, using(crate::proofs::Bytes::summary_placed))]
 fn store_summary(s: &mut [u8], v: Summary)
     requires { 24 ≤ length s.old }
     ensures { s.new ≡ placed s.old 0 (summary_bytes v) }
@@ -36,6 +38,7 @@ fn store_summary(s: &mut [u8], v: Summary)
 }
 
 // The fit of decoded numbers, with `rows` as its output. Rows and summary go out as bytes, unless the input was refused.
+#[tactic(auto, using(crate::proofs::Answers::rows_fit, crate::proofs::Answers::rows_within))]
 fn fitted_bytes(
     columns: &Columns<'_>,
     p: usize,
@@ -57,6 +60,7 @@ fn fitted_bytes(
 }
 
 // The fit of slices of the right lengths, every observation fully trusted.
+#[tactic(auto, using(crate::proofs::Answers::room_small))]
 fn fit_parts(
     coords: &[u8],
     x: &[u8],
@@ -92,6 +96,7 @@ fn fit_parts(
 }
 
 // The fit call: coordinates, predictors and responses as bytes, rows and summary to the bytes lent.
+#[tactic(auto, using(request::proofs::Lengths::passed, crate::proofs::Judged::call_unknown, crate::proofs::Judged::call_bytes, crate::proofs::Judged::call_parts))]
 pub fn fit_bytes(
     coords: &[u8],
     x: &[u8],

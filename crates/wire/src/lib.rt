@@ -7,6 +7,7 @@ ghost use Rattle.wire.specs.Wire.{bits_of, real_of, bytes_of, number_of, load_of
 use std::num::{f64_from_bits_with_nan, f64_to_bits_with_nan};
 
 // The bits of a real; every NaN has those of 7FF8000000000000.
+#[tactic(auto, using(crate::proofs::Floats::bits_of_is))]
 pub fn bits_of(x: f64) -> u64
     ensures { result ≡ bits_of x }
 {
@@ -14,6 +15,7 @@ pub fn bits_of(x: f64) -> u64
 }
 
 // The real of a bit pattern.
+#[tactic(auto, unfolding(crate::specs::Wire::real_of))]
 pub fn real_of(bits: u64) -> f64
     ensures { result ≡ real_of bits }
 {

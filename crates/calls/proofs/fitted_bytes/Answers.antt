@@ -8,21 +8,8 @@ use Rattle.calls.proofs.Answers.{rows_fit, rows_within, fit_some, fitted_is}
 use Rattle.calls.proofs.Bytes.{rows_placed}
 use Rattle.calls.proofs.fitted_bytes.Goals as goal
 
-pub overflow_mul-fit : goal.overflow_mul-fit
-overflow_mul-fit c =
-    let h = rows_fit _ _ _ _ _ _ c.gwr_fit.ensures [] [] _ c.in_ok-fit.was in omega (arith, h, c.requires.1.bytes)
-
-pub slice_bounds-encode-end : goal.slice_bounds-encode-end
-slice_bounds-encode-end c = rows_within _ _ _ _ _ _ c.gwr_fit.ensures [] [] _ c.in_ok-fit.was
-
 pub slice_bounds-encode-end-2 : goal.slice_bounds-encode-end-2
 slice_bounds-encode-end-2 c = sym (length-take-le _ _ (rows_within _ _ _ _ _ _ c.gwr_fit.ensures [] [] _ c.in_ok-fit.was))
-
-pub encode-requires : goal.encode-requires
-encode-requires c =
-    let h = rows_fit _ _ _ _ _ _ c.gwr_fit.ensures [] [] _ c.in_ok-fit.was in
-    let l = rows_within _ _ _ _ _ _ c.gwr_fit.ensures [] [] _ c.in_ok-fit.was in
-    omega (arith, h, length-take-le _ _ l, c.requires.1.bytes)
 
 pub store_summary-requires : goal.store_summary-requires
 store_summary-requires c = c.requires.1.whole (fit_some _ _ _ _ _ _ c.gwr_fit.ensures [] [] _ c.in_ok-fit.was)
