@@ -9,6 +9,7 @@ use super::{Trial, Tried};
 use setup::{GwrBandwidth, Problem};
 
 // What tells a bandwidth from the others of its kind.
+#[tactic(auto, unfolding(crate::specs::Memo::key_of))]
 fn key_of(b: GwrBandwidth) -> u64
     ensures { result ≡ key_of b }
 {
@@ -40,6 +41,7 @@ fn slot_of(tried: &[Option<Tried>; 102], key: u64) -> usize
 }
 
 // The trial at a point of the search: what an earlier trial at the same bandwidth left, or a sweep, which is remembered.
+#[tactic(auto, using(crate::proofs::Memos::recalled, crate::proofs::Memos::point_is, bounds::proofs::Usable::bandwidth_usable))]
 pub fn trial_of(problem: &Problem<'_>, point: f64, tried: &mut [Option<Tried>; 102]) -> Trial
     requires remembered { Remembered problem.now.setup problem.now.columns tried.old }
     ensures value { result ≡ trial_of problem.now.setup problem.now.columns point }

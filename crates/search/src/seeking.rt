@@ -10,6 +10,7 @@ use golden::Bracket;
 use setup::Problem;
 
 // The bracket's two inner points tried.
+#[tactic(auto, using(crate::proofs::Solves::trial_made), unfolding(crate::specs::Search::opened_of))]
 fn opened_of(problem: &Problem<'_>, g: Bracket, tried: &mut [Option<Tried>; 102]) -> Search
     requires few { problem.now.setup.n ≤ 512 }
     requires remembered { Remembered problem.now.setup problem.now.columns tried.old }
@@ -28,6 +29,7 @@ fn opened_of(problem: &Problem<'_>, g: Bracket, tried: &mut [Option<Tried>; 102]
 }
 
 // One round of a search that is not over.
+#[tactic(auto, using(crate::proofs::Solves::trial_made), unfolding(crate::specs::Search::round_of))]
 fn round_of(s: Search, problem: &Problem<'_>, r: usize, tried: &mut [Option<Tried>; 102]) -> Search
     requires few { problem.now.setup.n ≤ 512 }
     requires remembered { Remembered problem.now.setup problem.now.columns tried.old }
@@ -65,6 +67,7 @@ fn golden_section_min(problem: &Problem<'_>, lo: f64, hi: f64) -> Search
 }
 
 // 000's `optimize_bandwidth` from lo to hi: the bandwidth at the best point.
+#[tactic(auto, using(crate::proofs::Solves::optimum_made), unfolding(crate::specs::Search::optimize_bandwidth))]
 pub fn optimize_bandwidth(problem: &Problem<'_>, lo: f64, hi: f64) -> Optimum
     ensures value { result ≡ optimize_bandwidth problem.now.setup problem.now.columns lo hi }
     ensures usable { Usable result.bandwidth }

@@ -40,7 +40,7 @@ impl Stage {
     pub fn ended_solve(self) -> u64
         ensures { result ≡ ended_solve self }
     {
-        if self.is_ended() { 1 } else { 0 }
+        u64::from(self.is_ended())
     }
 }
 

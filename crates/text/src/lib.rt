@@ -14,6 +14,7 @@ pub struct Text<'a> {
 }
 
 // 0 to 9, then A to F.
+#[tactic(auto, unfolding(crate::specs::Listing::digit_of))]
 fn digit(v: u64) -> u8
     requires { v < 16 }
     ensures { result ≡ digit_of v }
@@ -22,6 +23,7 @@ fn digit(v: u64) -> u8
 }
 
 impl Text<'_> {
+    #[tactic(auto, using(crate::proofs::Lines::byte))]
     fn byte(&mut self, b: u8)
         requires { self.old.len < length self.old.bytes.now }
         ensures same_bytes { self.new.bytes.ghost_name ≡ self.old.bytes.ghost_name }
@@ -31,6 +33,7 @@ impl Text<'_> {
         self.len += 1;
     }
 
+    #[tactic(auto, using(crate::proofs::Lines::word_part))]
     fn word(&mut self, word: &[u8])
         requires { self.old.len + length word.now ≤ length self.old.bytes.now }
         ensures same_bytes { self.new.bytes.ghost_name ≡ self.old.bytes.ghost_name }
@@ -93,6 +96,7 @@ impl Text<'_> {
     }
 
     // The line of a fit: no refusal, bandwidth, AICc, solves.
+    #[tactic(auto, using(crate::proofs::Parts::bits_end, crate::proofs::Parts::count_end))]
     pub fn summary(&mut self, summary: &[u8])
         requires { (self.old.len + 47 ≤ length self.old.bytes.now) × (24 ≤ length summary.now) × (load_of summary.now 16 < 1000000) }
         ensures same_bytes { self.new.bytes.ghost_name ≡ self.old.bytes.ghost_name }
@@ -118,6 +122,7 @@ impl Text<'_> {
     }
 
     // The line of row i, `width` numbers.
+    #[tactic(auto, using(crate::proofs::Parts::count_end, crate::proofs::Parts::numbers_end))]
     pub fn row(&mut self, out: &[u8], i: usize, width: usize)
         requires { (self.old.len + 198 ≤ length self.old.bytes.now) × (width ≤ 11) × (i < 1000000) × (8 * (i * width + width) ≤ length out.now) }
         ensures same_bytes { self.new.bytes.ghost_name ≡ self.old.bytes.ghost_name }
@@ -144,6 +149,7 @@ impl Text<'_> {
 }
 
 // A refusal's line; answers where the text ends. The number, since text stands below refusals.
+#[tactic(auto, using(crate::proofs::Parts::count_end))]
 pub fn put_refused(text: &mut [u8], number: u32) -> usize
     requires { (11 ≤ length text.old) × (number < 1000000) }
     ensures { WrittenText text.old 0 (refused_line number) text.new result }
@@ -159,6 +165,7 @@ pub fn put_refused(text: &mut [u8], number: u32) -> usize
 }
 
 // The listing of a fit: its line, and one for each row; answers where the text ends.
+#[tactic(auto, using(crate::proofs::Parts::summary_end))]
 pub fn put_fit(text: &mut [u8], summary: &[u8], out: &[u8], n: usize, width: usize) -> usize
     requires rows_fit { (47 + 198 * n ≤ length text.old) × (n ≤ 1000000) × (width ≤ 11) × (8 * (n * width) ≤ length out.now) }
     requires summary_fits { (24 ≤ length summary.now) × (load_of summary.now 16 < 1000000) }

@@ -5,10 +5,6 @@ use Rattle.text.proofs.Lines.{text_is}
 use Rattle.text.proofs.Parts.{count_end, refused_line_lem}
 use Rattle.text.proofs.put_refused.Goals as goal
 
-pub byte-requires : goal.byte-requires
-byte-requires c =
-    let w = c.word.ensures.written in let n = c.count.ensures.written in omega (arith, w.stop, w.long, n.long, count_end _ n)
-
 pub returns : goal.returns
 returns c =
     let line = refused_line_lem _ c.word.ensures.written c.count.ensures.written c.byte.ensures.written c.requires.0 in

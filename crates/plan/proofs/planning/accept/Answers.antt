@@ -10,12 +10,3 @@ pub plan_options-requires : goal.plan_options-requires
 plan_options-requires c =
     let checked = rw (← c.columns.view_is) at c.check_input.ensures in
     let a = (input_accepted (trusted_data _ _ _ _) _ _ _ (sym checked ∙ c.in_ok-check_input.was)).shaped in record { lengths = a.places; sized = a.sized }
-
-pub returns-in_err-check_input : goal.returns-in_err-check_input
-returns-in_err-check_input c =
-    handed_on c.from_residual.ensures ∙ accept_refused _ _ _ _ (sym c.check_input.ensures ∙ c.in_err-check_input.was)
-
-pub returns : goal.returns
-returns c =
-    let checked = rw (← c.columns.view_is) at c.check_input.ensures in
-    rw (← c.columns.view_is) (accept_passed _ _ _ _ (sym checked ∙ c.in_ok-check_input.was) c.plan_options.ensures)

@@ -9,7 +9,3 @@ solves-requires c =
     let few = c.setup-u.ensures.shaped.sized.few in
     let h = made_few _ _ _ _ _ _ _ c.fit_all_locations-s.ensures in
     omega (arith, h.0, few)
-
-pub returns : goal.returns
-returns c =
-    trial_is _ _ _ _ _ _ _ _ c.fit_all_locations-s.ensures (rw c.setup-u.ensures.setup at c.ending.ensures) c.score_of.ensures c.solves.ensures
