@@ -58,7 +58,7 @@ impl From<Stage> for StageImage {
             Stage::Second => StageImage::Second,
             Stage::Round => StageImage::Round,
             Stage::Final => StageImage::Final,
-            Stage::Ended(c) => StageImage::Ended(c.map(|v| Bits::from(v))),
+            Stage::Ended(c) => StageImage::Ended(c.map(Bits::from)),
         }
     }
 }
