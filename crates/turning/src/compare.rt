@@ -67,6 +67,7 @@ fn bracket_image(g: Bracket) -> [Bits; 9] {
     [g.a, g.b, g.c, g.d, g.h, g.fc, g.fd, g.best, g.low].map(Bits::from)
 }
 
+// The flag is the option that 000 has.
 #[derive(Clone, Copy, PartialEq, Eq)]
 struct JobImage {
     kernel: GwrKernel,

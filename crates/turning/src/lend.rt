@@ -12,7 +12,7 @@ pub struct Given {
     pub want: Option<Refusal>,
 }
 
-// The allowance of a turn: zero, one, a few, many, or all that there are.
+// The allowance of a turn: zero, one, a few, many, or all that there are. By a number, since a seed draws it.
 fn allowance_of(seed: Seed, k: u32) -> u32 {
     if 36 < k {
         return u32::MAX;

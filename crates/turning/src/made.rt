@@ -6,6 +6,7 @@ use crate::trusts::{self, Sort};
 use kernel::GwrKernel;
 use setup::{GwrBandwidth, GwrCriterion, GwrOptions};
 
+// Arrays have the room of the largest case, of which n and p say how much counts, since there is no heap.
 #[derive(Drop)]
 pub struct Case {
     pub n: usize,
@@ -18,7 +19,8 @@ pub struct Case {
     pub seed: Seed,
 }
 
-// A value: whole numbers 0 to 2, huge numbers, or tenths up to 100. By a number, which a seed draws.
+// A value: whole numbers 0 to 2, huge numbers, or tenths up to 100.
+// By a number, since a seed draws it: an enum would be made of the number by the same match.
 fn value(s: Seed, style: u64) -> f64 {
     let v = (s.draw(1000) as u32) as f64 / 10.0;
     match style {

@@ -27,10 +27,11 @@ fn sort_of(k: u64, trusted: bool) -> Sort {
     }
 }
 
-// So many jobs of one seed by this criterion, with trusts of every sort or all of them 1.
+// So many jobs by this criterion, with trusts of every sort or, where the flag is not set, all of them 1.
 fn play_all(criterion: GwrCriterion, jobs: u64, trusted: bool) -> Tally {
     let mut t = Tally::new();
     let mut seed = Seed::first();
+    // Counted: k is the number of the job.
     for k in 0..jobs {
         seed = seed.next();
         let case = made::make_case(seed, k, criterion, sort_of(k, trusted));

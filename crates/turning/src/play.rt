@@ -15,6 +15,7 @@ use stepping::Job;
 use sweep::Finish;
 
 // After a turn: whether its output is that of the record that follows, and that of the uninterrupted fit, and the steps so far.
+// The flags are outcomes of comparisons, and no value depends on them.
 #[derive(Clone, Copy)]
 struct Seen {
     beside: bool,
@@ -23,7 +24,7 @@ struct Seen {
 }
 
 // A job that has begun: its first record and the columns of its data, and the end and the output of its uninterrupted fit. Some turns
-// are lent bad trusts where `spoils`.
+// are lent bad trusts where `spoils`, a flag that decides no other field.
 #[derive(Clone, Copy)]
 struct Begun<'a> {
     first: Job,
@@ -123,12 +124,7 @@ fn play_list(b: Begun<'_>, seed: Seed, t: &mut Tally) {
 
 // The record after so many turns of one step.
 fn follow(j: Job, columns: &Columns<'_>, out: &mut [f64], steps: u32) -> Job {
-    let mut at = j;
-    // Counted: nothing is indexed.
-    for k in 0..steps {
-        at = job::turn(at, columns, &mut *out, 1).job;
-    }
-    at
+    (0..steps).fold(j, |at, _| job::turn(at, columns, &mut *out, 1).job)
 }
 
 // What a turn answered, held to the record that followed it, to its expected refusal and, where it ended, to the uninterrupted fit.
