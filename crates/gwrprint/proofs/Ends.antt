@@ -6,7 +6,7 @@ use Prim.Native.Nat.{ℕ, ◌+◌, ◌-◌, ◌≤◌}
 use native.Mathlib.Omega.{arith}
 use borrow.Author.Tests.{ltb-true, ltb-false}
 use lib.Dec.{ltb}
-use lib.ListN.{length, take, length-append, length-take}
+use lib.ListN.{length, take, length-take}
 use lib.Seq.{length-take-le, take_at, take-append-le, take-append-add}
 use Rattle.header.specs.Headers.{header_of}
 use Rattle.listing.specs.Printed.{read_of}
@@ -16,10 +16,6 @@ use Rattle.listing.proofs.Reading.{asked_none, read_short, read_long}
 -- a part is as long as it says
 pub part_long : (m : ℕ) (l : List ℕ) → m ≤ length l → m ≡ length (take m l)
 part_long m l h = sym (length-take-le m l h)
-
--- what lies within the front lies within the whole
-pub front_within : (m : ℕ) (a b : List ℕ) → m ≤ length a → m ≤ length (a ++ b)
-front_within m a b h = omega (arith, length-append a b, h)
 
 -- m bytes were read into the first 40 bytes of l, which then hold a, with d behind them; and n into the k behind these, which then hold b
 module _ (l a d b w : List ℕ) (m n k : ℕ) (room : 41000 ≤ length l) (head : (m ≤ length a) × (length a ≡ length (take 40 l))) (more : (k ≡ asked (header_of (take m (a ++ d)))) × (k ≤ 40960)) (rest : (n ≤ length b) × (length b ≡ length (take (40 + k - 40) w))) where
