@@ -67,6 +67,7 @@ fn play(j: Job, columns: &Columns<'_>, out: &mut [f64], allowance: u32, turns: u
 
 // Begins an unsearched job at the bandwidth distance 400 and takes it through so many turns; answers the solves that it has made,
 // 0 where beginning refuses. The C interface lends slices one by one, and has a number for a kernel.
+#[tactic(auto, unfolding(crate::specs::Turns::turns_of))]
 #[unsafe(no_mangle)]
 pub extern "C" fn zescolumba_turns(
     coords: &[f64],
@@ -113,7 +114,7 @@ fn sum_at(walk: &Walker, at: usize) -> f64
 }
 
 // What is seen of a walk's end.
-#[tactic(auto, using(crate::proofs::Walking::end_seen))]
+#[tactic(auto, unfolding(crate::specs::Walks::end_of))]
 fn see(walk: &Walker, k: usize, at: usize, seen: &mut [f64; 5])
     ensures { seen.new ≡ end_of walk.now k at seen.old }
 {
@@ -125,7 +126,7 @@ fn see(walk: &Walker, k: usize, at: usize, seen: &mut [f64; 5])
 
 // A walk from the place over the first m of n pantries, asked for k there, and then over the others, asked again.
 // The caller has n, for the own number.
-#[tactic(auto, using(crate::proofs::Walking::room, crate::proofs::Walking::walks_seen))]
+#[tactic(auto, using(crate::proofs::Walking::room), unfolding(crate::specs::Walks::walks_of))]
 fn walks(
     coords: &[f64],
     n: usize,
@@ -148,7 +149,7 @@ fn walks(
 
 // The same of the pantries that the coordinates have; an own number from their number on is nobody's. Answers 1, or 0 where they are
 // more than 512, or fewer than m. The C interface gives easting and northing one by one.
-#[tactic(auto, using(crate::proofs::Walking::asked_served, crate::proofs::Walking::asked_beyond, crate::proofs::Walking::asked_many))]
+#[tactic(auto, unfolding(crate::specs::Walks::asked_of))]
 #[unsafe(no_mangle)]
 pub extern "C" fn zescolumba_walk(
     coords: &[f64],
@@ -197,7 +198,6 @@ fn tell(number: u32, s: Summary, rows: usize, reals: &mut [f64; 2], counts: &mut
 }
 
 // What is seen of a fit, in the arrays that the C interface lends.
-#[tactic(auto, using(crate::proofs::Judging::seen_rejected, crate::proofs::Judging::seen_made))]
 fn seen_of(fit: Result<Fit, Refusal>, reals: &mut [f64; 2], counts: &mut [u64; 2]) -> u32
     ensures { (result, (reals.new, counts.new)) ≡ seen_of fit reals.old counts.old }
 {
@@ -214,7 +214,6 @@ fn seen_of(fit: Result<Fit, Refusal>, reals: &mut [f64; 2], counts: &mut [u64; 2
 }
 
 // The fit by these options, seen so.
-#[tactic(auto, using(crate::proofs::Judging::fit_told))]
 fn fit_seen(
     columns: &Columns<'_>,
     p: usize,
@@ -231,6 +230,7 @@ fn fit_seen(
 
 // The fit of numbers by the byte call's numbers of kernel, kind and bandwidth, and a criterion's: 0 unguarded, any other guarded. Answers
 // the refusal's number; bandwidth and AICc, solves and rows are lent. The C interface lends slices one by one.
+#[tactic(auto, unfolding(crate::specs::Fits::judged_fit))]
 #[unsafe(no_mangle)]
 pub extern "C" fn zescolumba_fit_judged(
     coords: &[f64],
