@@ -54,6 +54,7 @@ fn kernel_by(number: u32) -> GwrKernel
 }
 
 // The job after so many turns of one allowance.
+#[tactic(auto, using(real::proofs::Fold::none, real::proofs::Fold::done), unfolding(crate::specs::Turns::play_of))]
 fn play(j: Job, columns: &Columns<'_>, out: &mut [f64], allowance: u32, turns: u32) -> Job
     ensures { (result, out.new) ≡ play_of columns.now allowance turns (j, out.old) }
 {
@@ -126,7 +127,7 @@ fn see(walk: &Walker, k: usize, at: usize, seen: &mut [f64; 5])
 
 // A walk from the place over the first m of n pantries, asked for k there, and then over the others, asked again.
 // The caller has n, for the own number.
-#[tactic(auto, using(crate::proofs::Walking::room), unfolding(crate::specs::Walks::walks_of))]
+#[tactic(auto, using(neighbours::proofs::Walks::walk_few), unfolding(crate::specs::Walks::walks_of))]
 fn walks(
     coords: &[f64],
     n: usize,
