@@ -58,7 +58,7 @@ impl From<Stage> for StageImage {
             Stage::Second => StageImage::Second,
             Stage::Round => StageImage::Round,
             Stage::Final => StageImage::Final,
-            Stage::Ended(c) => StageImage::Ended(c.map(|v| Bits::from(v))),
+            Stage::Ended(c) => StageImage::Ended(c.map(Bits::from)),
         }
     }
 }
@@ -67,6 +67,7 @@ fn bracket_image(g: Bracket) -> [Bits; 9] {
     [g.a, g.b, g.c, g.d, g.h, g.fc, g.fd, g.best, g.low].map(Bits::from)
 }
 
+// The flag is the option that 000 has.
 #[derive(Clone, Copy, PartialEq, Eq)]
 struct JobImage {
     kernel: GwrKernel,
