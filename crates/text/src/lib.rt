@@ -115,7 +115,7 @@ impl Text<'_> {
         ensures same_bytes { self.new.bytes.ghost_name ≡ self.old.bytes.ghost_name }
         ensures written { WrittenText self.old.bytes.now self.old.len (bits_texts (loads out.now first count)) self.new.bytes.now self.new.len }
     {
-        // An index: chunks would be of out[8 * first..8 * (first + count)], and each cut to an array of 8 before it is read.
+        // An index: chunks of out[8 * first..8 * (first + count)] are no plainer, and would be read otherwise than by `load`.
         for k in 0..count {
             self.bits(wire::load(out, 8 * (first + k)));
         }
