@@ -11,7 +11,7 @@ use kernel::GwrKernel;
 use refusal::Refusal;
 use setup::{GwrBandwidth, GwrOptions};
 
-// Kind 0 is a distance and 1 a count; 2 and 3 are the same, searched. A number, as it crosses the C interface; from here on it is an enum.
+// Kind 0 is a distance and 1 a count; 2 and 3 are the same, searched. A number, since the C interface passes one.
 #[tactic(auto, unfolding(crate::specs::Options::kind_of))]
 fn kind_of(kernel: GwrKernel, kind: u64, bandwidth: u64) -> Result<GwrOptions, Refusal>
     ensures { result ≡ kind_of kernel kind bandwidth }
@@ -74,8 +74,8 @@ pub fn check_bytes(coords: usize, x: usize, y: usize, p: u64) -> Result<(), Refu
 }
 
 // The number of an answer, for the C interface: 0 where nothing is refused. No two refusals share one (refusal/proofs/Distinct
-// `number_tells`), so it tells the answer (proofs/Answers `answer_tells`). `Finish::number` is the
-// same of an Option, since a finish has its summary in both cases.
+// `number_tells`), so it tells the answer (proofs/Answers `answer_tells`). `Finish::number` is the same
+// of an Option, since a finish has its summary in both cases.
 pub fn answer_number(answer: Result<(), Refusal>) -> u32
     ensures { result ≡ answer_number answer }
 {
