@@ -1,4 +1,4 @@
-// The fit call on bytes.
+// The fit call on bytes. Arrays of fixed room with how much of it counts, since there is no heap.
 #![tactic(auto)]
 
 ghost use Rattle.std.specs.Prelude.{◌≡◌, ◌+◌, ◌*◌, ◌/◌, ◌≤◌, ◌<◌, length};
@@ -59,7 +59,7 @@ fn fitted_bytes(
     }
 }
 
-// The fit of slices of the right lengths, every observation fully trusted.
+// The fit of slices of the right lengths, every observation fully trusted. Slices one by one, as document 01's call lends them.
 #[tactic(auto, using(crate::proofs::Answers::room_small))]
 fn fit_parts(
     coords: &[u8],
@@ -95,7 +95,8 @@ fn fit_parts(
     fitted_bytes(&columns, p, options, &mut rows[..room], out, summary)
 }
 
-// The fit call: coordinates, predictors and responses as bytes, rows and summary to the bytes lent.
+// The fit call: coordinates, predictors and responses as bytes, rows and summary to the bytes lent. Numbers and slices one by one, since
+// they are the C interface's, which document 01 lists.
 #[tactic(auto, using(request::proofs::Lengths::passed, crate::proofs::Judged::call_unknown, crate::proofs::Judged::call_bytes, crate::proofs::Judged::call_parts))]
 pub fn fit_bytes(
     coords: &[u8],

@@ -9,7 +9,7 @@ ghost use Rattle.header.specs.Headers.{asked};
 
 use refusal::Refusal;
 
-// The five numbers of a whole header that is not refused.
+// The five numbers of a whole header that is not refused. Kernel, kind and bandwidth stay numbers, since the fit call takes them so.
 #[derive(Clone, Copy)]
 pub struct Head {
     pub n: usize,

@@ -89,10 +89,10 @@ module _ {c y t : List Float} where
   walked_on {p} {i} {good} {next} {x} r places trusts front len h e =
       let few : i < length y = omega (arith, h.0, length-zip (zip p y) t, length-zip p y) in
       let both : x ≡ ((get_or p i x.0.0, get_or y i x.0.1), get_or t i x.1) =
-          h.1 ∙ get_or-zip (zip p y) t i x (omega (arith, length-zip p y)) (omega arith)
-          ∙ ap (λ (z : List Float × Float). (z, get_or t i x.1)) (get_or-zip p y i x.0 (omega arith) few) in
+      h.1 ∙ get_or-zip (zip p y) t i x (omega (arith, length-zip p y)) (omega arith)
+      ∙ ap (λ (z : List Float × Float). (z, get_or t i x.1)) (get_or-zip p y i x.0 (omega arith) few) in
       let place : x.0.0 ≡ get_or (first_chunks 2 (length c / 2) c) i [] =
-          ap (λ (z : (List Float × Float) × Float). z.0.0) both ∙ get_or_default p i x.0.0 [] (omega arith) ∙ ap (λ (l : List (List Float)). get_or l i []) front in
+      ap (λ (z : (List Float × Float) × Float). z.0.0) both ∙ get_or_default p i x.0.0 [] (omega arith) ∙ ap (λ (l : List (List Float)). get_or l i []) front in
       let east : get_or x.0.0 0 nan ≡ get_or c (2 * i) nan = ap (λ (l : List Float). get_or l 0 nan) place ∙ coordinate c (length c / 2) i 0 (2 * i) (omega arith) (omega arith) (omega arith) in
       let north : get_or x.0.0 1 nan ≡ get_or c (2 * i + 1) nan = ap (λ (l : List Float). get_or l 1 nan) place ∙ coordinate c (length c / 2) i 1 (2 * i + 1) (omega arith) (omega arith) refl in
       let answer : x.0.1 ≡ get_or y i nan = ap (λ (z : (List Float × Float) × Float). z.0.1) both ∙ get_or_default y i x.0.1 nan few in

@@ -77,7 +77,7 @@ fn observation_good(v: f64, east: f64, north: f64, trust: f64) -> bool
     (z <= trust) & (trust <= 1.0)
 }
 
-// Whether all observations are good.
+// Whether all observations are good. Of slices, not of the columns, whose value may have no trusts.
 fn observations_good(coords: &[f64], y: &[f64], trust: &[f64]) -> bool
     requires { (length coords.now ≡ 2 * length y.now) × (length trust.now ≡ length y.now) }
     ensures { result ≡ (all_finite y.now && all_finite coords.now && all_in_unit trust.now) }

@@ -8,7 +8,7 @@ use stepping::Job;
 use sweep::Finish;
 pub use turns::turn;
 
-// What a turn answers. Only `Refused` is a refused turn.
+// What a turn answers. Only `Refused` is a refused turn. Not a Result: there are three states, and the record comes back in each.
 #[derive(Clone, Copy)]
 pub enum Answer {
     Working,

@@ -1,4 +1,4 @@
-// What `gwrprint` prints.
+// What `gwrprint` prints. Bytes of fixed room with how many of them count, since there is no heap.
 #![tactic(auto)]
 
 ghost use Rattle.std.specs.Prelude.{◌≡◌, ◌+◌, ◌*◌, ◌≤◌, ◌<◌, length};

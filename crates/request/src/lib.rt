@@ -11,7 +11,7 @@ use kernel::GwrKernel;
 use refusal::Refusal;
 use setup::{GwrBandwidth, GwrOptions};
 
-// Kind 0 is a distance and 1 a count; 2 and 3 are the same, searched. A number, as it crosses the C interface: it is an enum from here on.
+// Kind 0 is a distance and 1 a count; 2 and 3 are the same, searched. A number, since the C interface passes one.
 #[tactic(auto, unfolding(crate::specs::Options::kind_of))]
 fn kind_of(kernel: GwrKernel, kind: u64, bandwidth: u64) -> Result<GwrOptions, Refusal>
     ensures { result ≡ kind_of kernel kind bandwidth }
@@ -51,7 +51,8 @@ fn check_part_bytes(x: usize, y: usize, n: usize, p: usize) -> Result<(), Refusa
     Ok(())
 }
 
-// Refusals 1 to 6 of byte lengths; p is a number of predictors.
+// Refusals 1 to 6 of byte lengths; p is a number of predictors. Not one with `input::check_shape` by a number's size: that one asks
+// for trusts and 7 too, and document 01's two lists would be laws of a third.
 #[tactic(auto, unfolding(crate::specs::Lengths::byte_tests, crate::specs::Lengths::part_tests, checks::specs::Judge::judge))]
 pub fn check_bytes(coords: usize, x: usize, y: usize, p: u64) -> Result<(), Refusal>
     ensures { result ≡ judge (byte_tests coords x y p) }
@@ -73,7 +74,8 @@ pub fn check_bytes(coords: usize, x: usize, y: usize, p: u64) -> Result<(), Refu
 }
 
 // The number of an answer, for the C interface: 0 where nothing is refused. No two refusals share one (refusal/proofs/Distinct
-// `number_tells`), so it tells the answer (proofs/Answers `answer_tells`). `Finish::number` is the same of an Option.
+// `number_tells`), so it tells the answer (proofs/Answers `answer_tells`). `Finish::number` is the same
+// of an Option, since a finish has its summary in both cases.
 pub fn answer_number(answer: Result<(), Refusal>) -> u32
     ensures { result ≡ answer_number answer }
 {

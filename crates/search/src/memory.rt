@@ -1,5 +1,6 @@
 // The trials that a search has made. A searched count comes to few counts, and a bracket that has shrunk to the same points
 // again: such trials are looked up, not worked again.
+// That the trials are this problem's stands in the contracts: with the problem in a struct of both, each would say that it stays the same.
 ghost use Rattle.std.specs.Prelude.{◌≡◌, ◌<◌, length};
 ghost use Rattle.search.specs.Trial.{trial_of};
 ghost use Rattle.search.specs.Memo.{key_of, serves, slot_of, Remembered};

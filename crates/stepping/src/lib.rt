@@ -51,7 +51,7 @@ pub struct Trials {
     pub made: usize,
 }
 
-// The job record.
+// The job record. It has no invariant: a lent one may be anything, 19 refuses what is not fit, and `Sound` is asked of the others.
 #[derive(Clone, Copy)]
 pub struct Job {
     pub setup: Setup,

@@ -1,4 +1,4 @@
-// The text of a listing, written into bytes that the caller lends.
+// The text of a listing, written into bytes that the caller lends: fixed room with how much of it counts, since there is no heap.
 #![tactic(auto)]
 
 ghost use Rattle.std.specs.Prelude.{◌≡◌, ◌+◌, ◌*◌, ◌≤◌, ◌<◌, [], ◌∷◌, length};
@@ -13,7 +13,7 @@ pub struct Text<'a> {
     pub len: usize,
 }
 
-// 0 to 9, then A to F.
+// 0 to 9, then A to F. Digits by hand: `write!` may answer an error, of which its contract says nothing, and no listing may fail.
 #[tactic(auto, unfolding(crate::specs::Listing::digit_of))]
 fn digit(v: u64) -> u8
     requires { v < 16 }
@@ -115,7 +115,7 @@ impl Text<'_> {
         ensures same_bytes { self.new.bytes.ghost_name ≡ self.old.bytes.ghost_name }
         ensures written { WrittenText self.old.bytes.now self.old.len (bits_texts (loads out.now first count)) self.new.bytes.now self.new.len }
     {
-        // An index: chunks of out[8 * first..8 * (first + count)] are no plainer.
+        // An index: chunks of out[8 * first..8 * (first + count)] are no plainer, and would be read otherwise than by `load`.
         for k in 0..count {
             self.bits(wire::load(out, 8 * (first + k)));
         }

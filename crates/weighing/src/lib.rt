@@ -1,4 +1,4 @@
-// The weight call on bytes.
+// The weight call on bytes. Kernel, distance and bandwidth are numbers, as document 01's call passes them.
 #![tactic(auto)]
 
 ghost use Rattle.std.specs.Prelude.{◌≡◌, ◌≤◌, ◌<◌, length};

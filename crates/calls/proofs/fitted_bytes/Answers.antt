@@ -1,10 +1,9 @@
 -- `calls::fitted_bytes`: what the fit wrote has room in the bytes.
 use mathlib.Core.Path.{sym, ap, ◌∙◌}
 use mathlib.Core.List.{[]}
-use native.Mathlib.Omega.{arith}
 use lib.Seq.{length-take-le}
 use Rattle.sweep.specs.Finish.{number_at}
-use Rattle.calls.proofs.Answers.{rows_fit, rows_within, fit_some, fitted_is}
+use Rattle.calls.proofs.Answers.{rows_within, fit_some, fitted_is}
 use Rattle.calls.proofs.Bytes.{rows_placed}
 use Rattle.calls.proofs.fitted_bytes.Goals as goal
 

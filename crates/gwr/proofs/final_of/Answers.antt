@@ -1,7 +1,7 @@
 -- `gwr::final_of`: the sweep with rows, and what it ends with.
 use native.Mathlib.Omega.{arith}
 use Rattle.sweep.proofs.Sweeps.{made_few}
-use Rattle.gwr.proofs.Fits.{final_is, solves_made}
+use Rattle.gwr.proofs.Fits.{solves_made}
 use Rattle.gwr.proofs.final_of.Goals as goal
 
 pub solves-requires : goal.solves-requires

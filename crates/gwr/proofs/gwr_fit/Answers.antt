@@ -1,9 +1,8 @@
 -- `gwr::gwr_fit`: by what is said of the input, and by the plan.
-use mathlib.Core.Path.{sym, ap, subst, ◌∙◌}
+use mathlib.Core.Path.{sym, subst, ◌∙◌}
 use native.Mathlib.Omega.{arith}
-use Rattle.checks.proofs.Tests.{handed_on}
 use Rattle.plan.proofs.Planned.{Serves, accept_planned}
-use Rattle.gwr.proofs.Fits.{fit_is, shaped_is, posed_is, room_is, planned_is}
+use Rattle.gwr.proofs.Fits.{shaped_is, room_is}
 use Rattle.gwr.proofs.gwr_fit.Goals as goal
 
 pub pose-problem-requires : goal.pose-problem-requires

@@ -1,8 +1,7 @@
 -- `text::put_refused`: the line of a refusal.
 use borrow.Author.Rules.{rules}
-use native.Mathlib.Omega.{arith}
 use Rattle.text.proofs.Lines.{text_is}
-use Rattle.text.proofs.Parts.{count_end, refused_line_lem}
+use Rattle.text.proofs.Parts.{refused_line_lem}
 use Rattle.text.proofs.put_refused.Goals as goal
 
 pub returns : goal.returns

@@ -1,6 +1,6 @@
 -- `job::turns::check_turn`: 19, 20, then what is lent.
 use mathlib.Core.Path.{sym, ◌∙◌}
-use Rattle.job.proofs.Turning.{turn_unfit, turn_ended, turn_lent, fit_live}
+use Rattle.job.proofs.Turning.{fit_live}
 use Rattle.job.proofs.turns.check_turn.Goals as goal
 
 pub check_lent-requires : goal.check_lent-requires

@@ -1,9 +1,7 @@
 -- `search::memory::trial_of`: an entry in use that has the key holds the trial, and a new one is put into its entry.
-use mathlib.Core.Path.{sym, subst, subst⁻¹}
+use mathlib.Core.Path.{sym, subst}
 use lib.Dec.{T}
-use Rattle.setup.specs.Bandwidth.{Usable}
-use Rattle.bounds.proofs.Usable.{bandwidth_usable}
-use Rattle.search.proofs.Memos.{point_is, recalled, kept}
+use Rattle.search.proofs.Memos.{kept}
 use Rattle.search.proofs.memory.trial_of.Goals as goal
 
 pub returns-clause-still_remembered : goal.returns-clause-still_remembered

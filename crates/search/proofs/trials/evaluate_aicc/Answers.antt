@@ -1,7 +1,6 @@
 -- `search::trials::evaluate_aicc`: the sweep's score and solves.
 use native.Mathlib.Omega.{arith}
 use Rattle.sweep.proofs.Sweeps.{made_few}
-use Rattle.search.proofs.Solves.{trial_is}
 use Rattle.search.proofs.trials.evaluate_aicc.Goals as goal
 
 pub solves-requires : goal.solves-requires

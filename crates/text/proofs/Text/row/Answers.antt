@@ -1,6 +1,5 @@
 -- `Text::row`: the line of a row.
-use native.Mathlib.Omega.{arith}
-use Rattle.text.proofs.Parts.{count_end, numbers_end, row_line_lem}
+use Rattle.text.proofs.Parts.{row_line_lem}
 use Rattle.text.proofs.Text.row.Goals as goal
 
 pub returns-clause-written : goal.returns-clause-written

@@ -1,6 +1,5 @@
 -- `Text::summary`: the line of a fit.
-use native.Mathlib.Omega.{arith}
-use Rattle.text.proofs.Parts.{bits_end, count_end, summary_line_lem}
+use Rattle.text.proofs.Parts.{summary_line_lem}
 use Rattle.text.proofs.Text.summary.Goals as goal
 
 pub returns-clause-written : goal.returns-clause-written
