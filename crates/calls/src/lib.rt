@@ -1,4 +1,4 @@
-// The fit call on bytes. Arrays of fixed room with how much of it counts, since there is no heap.
+// The fit call on bytes, which are decoded into arrays of fixed room, since there is no heap: the parts of them that count are lent on.
 #![tactic(auto)]
 
 ghost use Rattle.std.specs.Prelude.{◌≡◌, ◌+◌, ◌*◌, ◌/◌, ◌≤◌, ◌<◌, length};

@@ -1,6 +1,7 @@
 // The coefficients of a weighted fit at a place, from the weights of the observations seen from there.
 //
 // Weights, coefficients and matrices have fixed room, since there is no heap: n, m and m rows of them count.
+// Weights come beside the sample and their sum, as the definitions take them: no clause says that the sum is theirs.
 #![tactic(auto)]
 
 ghost use Rattle.std.specs.Prelude.{◌≡◌, ◌≤◌};
@@ -65,7 +66,7 @@ fn coefficients_under(sample: &Sample<'_>, w: &[f64; 512]) -> Result<Coefficient
     Ok(Coefficients { beta, inverse })
 }
 
-// The same under weights with this sum, which must be above zero.
+// The same under weights with this sum: 27 where that is not above zero.
 #[tactic(auto, unfolding(crate::specs::Estimate::fit_coefficients))]
 pub fn fit_coefficients(
     sample: &Sample<'_>,

@@ -1,6 +1,7 @@
 // What a fit says of the location that it was made for: prediction, residual, local R² and leverage.
 //
-// Weights have fixed room, since there is no heap: those of the n observations count. They are no part of a sample, which they weigh.
+// Weights have fixed room, since there is no heap: those of the n observations count. They
+// come beside the sample and their sum, as the definitions take them: no clause says that the sum is theirs.
 #![tactic(auto)]
 
 ghost use Rattle.std.specs.Prelude.{◌≡◌, ◌+◌, ◌≤◌, ◌<◌, length};
@@ -42,7 +43,7 @@ fn hat_diagonal(inverse: &[[f64; 16]; 8], row: [f64; 8], own: f64, m: usize) -> 
     ensures { result ≡ hat_diagonal inverse.now row own m }
 {
     let mut quad = 0.0;
-    // An index: row p of the inverse and cell p of the design row.
+    // An index: the row of the inverse goes by it, and an enumeration of the design row's cells would have it too.
     for p in 0..m {
         quad = quad + row[p] * estimate::inverse_times(inverse, p, row, m);
     }
@@ -73,7 +74,7 @@ fn sum_squares(sample: &Sample<'_>, w: &[f64; 512], beta: [f64; 8], mean: f64) -
     let u = sample.setup();
     let x = sample.predictors();
     let y = sample.responses();
-    // An index: chunks of no predictors cannot be zipped.
+    // An index, for the predictors: chunks of none cannot be zipped.
     for j in 0..u.n {
         if w[j] == 0.0 {
             continue;

@@ -1,6 +1,7 @@
 // 000's `invert_matrix`: Gauss-Jordan elimination with partial pivoting on the augmented matrix [A | I].
 //
 // A matrix has fixed room, since there is no heap: n rows and m columns of it count, and rows and columns go by their numbers.
+// The two are handed on beside it, as the definitions have them: a struct of the three would be made for the one call of `eliminate`.
 #![tactic(auto)]
 
 ghost use Rattle.std.specs.Prelude.{◌≡◌, ◌≤◌, ◌<◌};
@@ -37,7 +38,7 @@ fn find_pivot(a: &[[f64; 16]; 8], i: usize, n: usize) -> Pivot
         row: i,
         val: real::abs(a[i][i]),
     };
-    // An index: the pivot is a row, by its number.
+    // An index: the pivot is a row's number, the first on a tie, where `max_by` would give the last.
     for k in i + 1..n {
         p = better(a, i, k, p);
     }
@@ -61,7 +62,7 @@ fn less_row(row: &mut [f64; 16], v: f64, by: &[f64; 16], m: usize)
     requires { m ≤ 16 }
     ensures { row.new ≡ less_row v by.now m row.old }
 {
-    // An index: of cells that a zip changes a proof knows nothing afterwards.
+    // An index: `by` is read at it too, and of cells that a zip changes a proof knows nothing afterwards.
     for j in 0..m {
         row[j] = row[j] - v * by[j];
     }
@@ -109,7 +110,7 @@ fn reduce(a: &mut [[f64; 16]; 8], i: usize, n: usize, m: usize, p: usize)
 }
 
 // The elimination over n rows and m columns: none where a pivot is below 1e-12, that is, the matrix is singular. In place, since a
-// matrix in an `Option` is copied by each that hands it on, which a fit of few observations pays for.
+// matrix in an `Option` is copied by each that hands it on, which a fit of few observations pays for. The refusal is the caller's to name.
 #[tactic(auto, using(real::proofs::Fold::none, crate::proofs::Pivoting::stopped, crate::proofs::Pivoting::pivot_row, real::proofs::Fold::done), unfolding(crate::specs::Gauss::try_step, crate::specs::Gauss::gauss_step, crate::specs::Gauss::eliminated))]
 pub fn eliminate(a: &mut [[f64; 16]; 8], n: usize, m: usize) -> Option<()>
     requires { (n ≤ 8) × (m ≤ 16) }

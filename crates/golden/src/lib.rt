@@ -132,7 +132,7 @@ impl Bracket {
         }
     }
 
-    // The part from a to d, with `point` as its new c.
+    // The part from a to d, with `point` as its new c. `keep_right` is its mirror image, with other fields throughout.
     fn keep_left(self, point: f64, score: f64) -> Self
         ensures { result ≡ left_of self point score }
     {

@@ -14,7 +14,7 @@ use real::{all_finite, all_in_unit};
 use refusal::Refusal;
 use setup::{Columns, GwrBandwidth, GwrOptions, Setup};
 
-// Refusals 1 to 7: the lengths of the slices and the number of predictors.
+// Refusals 1 to 7: the lengths of the slices and the number of predictors, as the list of tests takes them.
 #[tactic(auto, unfolding(crate::specs::Checks::shape_tests, checks::specs::Judge::judge))]
 fn check_shape(coords: usize, x: usize, y: usize, trusts: usize, p: usize) -> Result<(), Refusal>
     ensures { result ≡ judge (shape_tests coords x y trusts p) }

@@ -13,6 +13,7 @@ fn solve_local(problem: &Problem<'_>, i: usize, b: f64) -> Result<Solved, Refusa
     requires { i < problem.now.setup.n }
     ensures { result ≡ solve_local problem.now.setup problem.now.columns i b }
 {
+    // Room for the most observations, since there is no heap.
     let mut w = [0.0; 512];
     let sum = weights::weigh(problem, problem.place(i), b, &mut w);
     let sample = problem.sample();

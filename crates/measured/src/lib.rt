@@ -45,7 +45,7 @@ pub extern "C" fn zescolumba_exponentials(values: &mut [f64])
     mapped::exponentials(values);
 }
 
-// A number that the C interface has; unlike that of a byte call it refuses none.
+// The kernel of a number that the C interface has: unlike that of a byte call it refuses none.
 #[tactic(auto, unfolding(crate::specs::Turns::kernel_by, kernel::specs::Numbers::kernel_of))]
 fn kernel_by(number: u32) -> GwrKernel
     ensures { result ≡ kernel_by number }
@@ -126,7 +126,7 @@ fn see(walk: &Walker, k: usize, at: usize, seen: &mut [f64; 5])
 }
 
 // A walk from the place over the first m of n pantries, asked for k there, and then over the others, asked again.
-// The caller has n, for the own number.
+// n stands beside the coordinates, as in the definition.
 #[tactic(auto, using(neighbours::proofs::Walks::walk_few), unfolding(crate::specs::Walks::walks_of))]
 fn walks(
     coords: &[f64],
@@ -175,7 +175,7 @@ pub extern "C" fn zescolumba_walk(
     0
 }
 
-// A number that the C interface has and no byte call; it refuses none.
+// The criterion of a number that the C interface has and no byte call: it refuses none.
 #[tactic(auto, unfolding(crate::specs::Fits::criterion_by))]
 fn criterion_by(number: u32) -> GwrCriterion
     ensures { result ≡ criterion_by number }

@@ -120,7 +120,7 @@ impl Walker {
     }
 
     // What the walk gives for a count k when stopped: the root of the k-th smallest sum, of the greatest where fewer were met; where
-    // that is zero, or nobody was met, the greater of the greatest distance and EPS.
+    // that is zero, or nobody was met, the greater of the greatest distance and EPSILON.
     pub fn found_by(&self, k: usize) -> f64
         ensures { result ≡ found_by k self.now }
     {

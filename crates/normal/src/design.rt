@@ -1,4 +1,4 @@
-// Design rows. Length, n and p come one by one: what is asked of them is one line, and `Sample` has no predictors but its own.
+// Design rows, of any predictors that are lent: n and p come beside them, n for the clause alone.
 ghost use Rattle.std.specs.Prelude.{◌≡◌, ◌*◌, ◌≤◌, ◌<◌, length};
 ghost use Rattle.normal.specs.Design.{predictors_of, design_row};
 

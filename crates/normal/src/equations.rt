@@ -1,4 +1,5 @@
 // The weighted normal equations, observation by observation. Weights have fixed room, since there is no heap: n of the 512 count.
+// The predictors of an observation are a part of all of them: a type for at most seven would be made for each observation.
 ghost use Rattle.std.specs.Prelude.{◌≡◌, ◌+◌, ◌≤◌, length};
 ghost use Rattle.normal.specs.Design.{design_of};
 ghost use Rattle.normal.specs.Equations.{add_row, observe, equations_of};
@@ -19,7 +20,7 @@ fn add_row(row: &mut [f64; 8], wx: f64, own: &[f64], from: usize)
     requires { (length own.now ≤ 7) × (from ≤ length own.now) }
     ensures { row.new ≡ add_row wx (design_of own.now) (from + 1) (length own.now + 1) row.old }
 {
-    // An index: of cells that a zip changes a proof knows nothing afterwards.
+    // An index: `own` is read at it too, and of cells that a zip changes a proof knows nothing afterwards.
     for q in from..own.len() {
         row[q + 1] = row[q + 1] + wx * own[q];
     }
@@ -64,7 +65,7 @@ pub fn equations_of(sample: &Sample<'_>, w: &[f64; 512]) -> Equations
         a: [[0.0; 8]; 8],
         rhs: [0.0; 8],
     };
-    // An index: chunks of no predictors cannot be zipped. `sum_squares` of `evaluate` walks likewise; what is shared is these lines alone.
+    // An index, for the predictors: chunks of none cannot be zipped. `sum_squares` of `evaluate` walks likewise; what is shared is these lines alone.
     for j in 0..u.n {
         if w[j] == 0.0 {
             continue;

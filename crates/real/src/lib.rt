@@ -1,4 +1,4 @@
-// Helpers on f64 that the Rust takes from its library, each with the meaning it has there.
+// Helpers on f64, most of which the Rust takes from its library. What each means is its contract.
 #![tactic(auto)]
 
 ghost use Rattle.std.specs.Prelude.{◌≡◌, ◌*◌, ◌^◌, ◌<◌, ◌≤◌, false, ◌&&◌, T, length, take, from_bits};
@@ -16,7 +16,7 @@ pub fn from_count(n: usize) -> f64
     f64::from(n as u32)
 }
 
-// Rust's `x.is_finite()`, in a word of this repository's.
+// Rust's `x.is_finite()`, promised in the word that the definitions use.
 #[tactic(auto, using(crate::proofs::Std::finite_same))]
 pub fn is_finite(x: f64) -> bool
     ensures { result ≡ finite x }
@@ -32,7 +32,7 @@ fn four_finite(a: f64, b: f64, c: f64, d: f64) -> bool
 }
 
 // Whether the first 4 h numbers of s are finite, four at a time that stand h apart: one comparison for four, and neighbours beside
-// each other for the processor to take two at once. An index: a zip of the four quarters is no plainer.
+// each other for the processor to take two at once. An index: a zip of the four quarters would be three deep.
 fn quarters_finite(s: &[f64], h: usize) -> bool
     requires { 4 * h ≤ length s.now }
     ensures { result ≡ all_finite (take (4 * h) s.now) }

@@ -16,7 +16,7 @@ fn write_row(out: &mut [f64], beta: [f64; 8], m: usize, v: Values)
     out[m..m + 3].copy_from_slice(&[v.predicted, v.residual, v.local_r2]);
 }
 
-// Row i of the output: the part that starts at i * (m + 3) is lent on.
+// Row i of the output: the part that starts at i * (m + 3) is lent on. n stands in the clause alone.
 #[tactic(auto, unfolding(crate::specs::Row::put_row))]
 pub fn put_row(out: &mut [f64], n: usize, m: usize, i: usize, beta: [f64; 8], v: Values)
     requires { (m ≤ 8) × (i < n) × (n ≤ 512) × (n * (m + 3) ≤ length out.old) }

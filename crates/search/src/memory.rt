@@ -1,6 +1,6 @@
 // The trials that a search has made. A searched count comes to few counts, and a bracket that has shrunk to the same points
 // again: such trials are looked up, not worked again.
-// That the trials are this problem's stands in the contracts: with the problem in a struct of both, each would say that it stays the same.
+// That the trials are this problem's is a clause: of a struct of both each contract would have to say that the problem stays the same.
 ghost use Rattle.std.specs.Prelude.{◌≡◌, ◌<◌, length};
 ghost use Rattle.search.specs.Trial.{trial_of};
 ghost use Rattle.search.specs.Memo.{key_of, serves, slot_of, Remembered};
@@ -9,7 +9,7 @@ use super::trials::evaluate_aicc;
 use super::{Trial, Tried};
 use setup::{GwrBandwidth, Problem};
 
-// What tells a bandwidth from the others of its kind.
+// What tells a bandwidth from the others of its kind: of a distance the bits, since as a number a NaN is unequal to itself.
 #[tactic(auto, unfolding(crate::specs::Memo::key_of))]
 fn key_of(b: GwrBandwidth) -> u64
     ensures { result ≡ key_of b }

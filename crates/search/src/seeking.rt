@@ -9,7 +9,7 @@ use super::{Optimum, Search, Tried};
 use golden::Bracket;
 use setup::Problem;
 
-// The bracket's two inner points tried.
+// The bracket's two inner points tried. That observations are few is the problem's, and only a call of `setup` would tell a proof so.
 #[tactic(auto, using(crate::proofs::Solves::trial_made), unfolding(crate::specs::Search::opened_of))]
 fn opened_of(problem: &Problem<'_>, g: Bracket, tried: &mut [Option<Tried>; 102]) -> Search
     requires few { problem.now.setup.n ≤ 512 }

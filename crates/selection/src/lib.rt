@@ -47,7 +47,7 @@ fn whole(n: usize, top: f64) -> Bracket
     }
 }
 
-// The bracket from x on, which so many are below.
+// The bracket from x on, which so many are below; `ended` sets the other two fields.
 fn raised(b: Bracket, x: f64, below: f64) -> Bracket {
     Bracket {
         lo: x,

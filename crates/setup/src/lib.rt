@@ -1,6 +1,7 @@
 // What a job is: its bandwidth, its options, and its sizes. None of these changes while it is worked.
 //
-// No type here says what is usable, or fits: a bandwidth or a size that is handed over may be anything, and is refused with its number.
+// No type here says what is usable, or fits: a bandwidth or a size that is handed over may be anything, and is refused with its number. Behind
+// the checks what is known of them is a clause: `Setup` is a part of the record, which may be unfit.
 #![tactic(auto)]
 
 ghost use Rattle.std.specs.Prelude.{◌≡◌};
@@ -21,7 +22,7 @@ pub enum GwrBandwidth {
 }
 
 impl GwrBandwidth {
-    // The number that a summary reports: the distance, or the count as a real.
+    // The number that a summary reports: the distance, or the count as a real. No `From`, since it asks for a usable one.
     pub fn report_value(self) -> f64
         requires { Usable self }
         ensures { result ≡ report_value self }

@@ -27,8 +27,8 @@ impl<'a> Model for Columns<'a> {
     ghost view = { λ o. trusted_data o.coords.now o.predictors.now o.responses.now o.trusts.now };
 }
 
-// What 000 is handed, its lengths known to fit: options and sizes beside coordinates, predictors and responses. All that a trust
-// reaches through the weights alone is worked on this.
+// What 000 is handed, its lengths known to fit: options and sizes beside coordinates, predictors and responses. What asks for no trust
+// but through the weights works on a sample.
 #[derive(Drop)]
 pub struct Sample<'a> {
     setup: Setup,
@@ -50,7 +50,7 @@ impl<'a> Model for Sample<'a> {
 }
 
 impl<'a> Sample<'a> {
-    // The sample of a setup, of which the columns have the lengths.
+    // The sample of a setup, of which the columns have the lengths. One by one, since `Columns` have trusts.
     pub fn pose(
         setup: Setup,
         coords: &'a [f64],

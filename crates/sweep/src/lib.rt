@@ -136,7 +136,7 @@ pub struct Finish {
 }
 
 impl Finish {
-    // The number that a byte call answers, as document 01 has it: 0 where no refusal was met, else the refusal's.
+    // How it ended, as a number for C: 0 where no refusal was met, else the refusal's.
     pub fn number(self) -> u32
         ensures { result ≡ finish_number self }
     {

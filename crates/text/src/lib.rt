@@ -6,7 +6,7 @@ ghost use Rattle.wire.specs.Wire.{load_of};
 ghost use Rattle.text.specs.Listing.{digit_of, hex_in, decimal_in, bits_text, count_text, bits_texts, refused_line, summary_line, row_line, row_lines, listing, loads, rows_of, WrittenText};
 
 // The text so far: the first `len` of the bytes lent. What stands behind it stays until it is written over.
-// Each method adds to it, within the same bytes.
+// Each method adds to it, within the same bytes; each says so, since an invariant speaks of one moment and not of two.
 #[derive(Drop)]
 pub struct Text<'a> {
     pub bytes: &'a mut [u8],
@@ -115,7 +115,7 @@ impl Text<'_> {
         ensures same_bytes { self.new.bytes.ghost_name ≡ self.old.bytes.ghost_name }
         ensures written { WrittenText self.old.bytes.now self.old.len (bits_texts (loads out.now first count)) self.new.bytes.now self.new.len }
     {
-        // An index: chunks of out[8 * first..8 * (first + count)] are no plainer, and would be read otherwise than by `load`.
+        // An index: number k stands at byte 8 * (first + k), and chunks of out[8 * first..8 * (first + count)] are no plainer.
         for k in 0..count {
             self.bits(wire::load(out, 8 * (first + k)));
         }
@@ -148,7 +148,7 @@ impl Text<'_> {
     }
 }
 
-// A refusal's line; answers where the text ends. The number, since text stands below refusals.
+// A refusal's line; answers where the text ends. The number: that is all that a line has of a refusal.
 #[tactic(auto, using(crate::proofs::Parts::count_end))]
 pub fn put_refused(text: &mut [u8], number: u32) -> usize
     requires { (11 ≤ length text.old) × (number < 1000000) }

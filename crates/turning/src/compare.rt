@@ -1,7 +1,8 @@
 // Whether two records, or two outputs, are the same.
 //
 // Reals are the same by their bits: as numbers a NaN is unequal to itself, and -0 equal to 0. So a record has an image, in which
-// reals are their bits, and images are compared by derived equality.
+// reals are their bits, and images are compared by derived equality. They are types of their own: the record's types would get a
+// parameter, the type of a number, for this program's sake.
 use golden::Bracket;
 use kernel::GwrKernel;
 use refusal::Refusal;

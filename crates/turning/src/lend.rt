@@ -82,11 +82,12 @@ fn kind_of(seed: Seed, k: u32, spoils: bool, x: &[f64]) -> Kind {
 }
 
 impl Kind {
-    // How many numbers of a column are lent: none by turns of one kind. Then how many predictors and how many trusts.
+    // How many numbers of a column are lent: none by turns of one kind.
     fn count(self, lacks: Kind, column: &[f64]) -> usize {
         if self == lacks { 0 } else { column.len() }
     }
 
+    // How many predictors are lent.
     fn predictors(self, columns: &Columns<'_>) -> usize {
         match self {
             Kind::OtherPredictors => {
@@ -100,6 +101,7 @@ impl Kind {
         }
     }
 
+    // How many trusts are lent.
     fn trusts(self, columns: &Columns<'_>) -> usize {
         match self {
             Kind::NoTrusts => 0,
@@ -112,11 +114,12 @@ impl Kind {
         (self != Kind::NoOutput) & (self != Kind::TrustNanNoOutput)
     }
 
-    // What the last number of a slice is replaced with by turns of one kind, and the last trust.
+    // What the last number of a slice is replaced with by turns of one kind.
     fn bad(self, spoils: Kind, v: f64) -> Option<f64> {
         (self == spoils).then_some(v)
     }
 
+    // What the last trust is replaced with.
     fn bad_trust(self) -> Option<f64> {
         match self {
             Kind::TrustAboveOne => Some(1.0000000000000002),

@@ -49,6 +49,7 @@ const KERNELS: [GwrKernel; 3] = [
     GwrKernel::Exponential,
 ];
 
+// The kinds in turn, by the number of the job.
 fn bandwidth_of(k: u64, seed: Seed) -> GwrBandwidth {
     if k % 2 == 0 {
         GwrBandwidth::Fixed((seed.draw(1200) as u32) as f64 / 10.0)

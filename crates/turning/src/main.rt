@@ -27,7 +27,7 @@ fn sort_of(k: u64, trusted: bool) -> Sort {
     }
 }
 
-// So many jobs by this criterion, with trusts of every sort or, where the flag is not set, all of them 1.
+// So many jobs by this criterion, with trusts of every sort, which turns may spoil, or, where the flag is not set, all of them 1.
 fn play_all(criterion: GwrCriterion, jobs: u64, trusted: bool) -> Tally {
     let mut t = Tally::new();
     let mut seed = Seed::first();

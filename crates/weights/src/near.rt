@@ -1,6 +1,7 @@
 // What makes the weights fast: no root beyond a kernel's reach; and where there is no reach all distances are guessed, then settled,
 // then weighed by the kernel, then by their trusts, each in a loop of its own: a guess waits for divisions, and an exponential keeps
-// no number in its register and leaves room for little beside it.
+// no number in its register and leaves room for little beside it. Coordinates and trusts come one by one: the definitions take them so,
+// and nothing else of the problem is read.
 ghost use Rattle.std.specs.Prelude.{◌≡◌, ◌*◌, ◌≤◌, length};
 ghost use Rattle.kernel.specs.Reach.{Reach};
 ghost use Rattle.weights.specs.Near.{near_distance, near_weights, kernel_over, Filled};
@@ -11,7 +12,7 @@ use kernel::{GwrKernel, Place};
 fn guess_all(coords: &[f64], place: Place, y: &mut [f64])
     requires { 2 * length y.old ≤ length coords.now }
 {
-    // By numbers, here and below: a place is two of coords for one of y, and what a zip of them writes is not known behind it.
+    // By numbers: `Place::at` reads both coordinates of one.
     for (j, d) in y.iter_mut().enumerate() {
         *d = place.guess_distance(Place::at(coords, j));
     }
@@ -22,6 +23,7 @@ fn settle_all(coords: &[f64], place: Place, y: &mut [f64])
     requires { 2 * length y.old ≤ length coords.now }
     ensures { Filled (near_distance coords.now place.east place.north) (length y.new) y.new }
 {
+    // By numbers: a place is two of coords for one of y, and what a zip of them writes is not known behind it.
     for (j, d) in y.iter_mut().enumerate() {
         *d = place.settle_distance(Place::at(coords, j), *d);
     }
@@ -54,7 +56,7 @@ pub fn weigh_all(
     settle_all(coords, place, &mut *y);
     kernel_all(kernel, b, &mut *y);
     let mut sum = 0.0;
-    // By an index: what a zip over lent numbers writes is not known behind it.
+    // By an index: distances, trusts and weights stand side by side, and what a zip of them writes is not known behind it.
     for j in 0..trusts.len() {
         let v = y[j] * trusts[j];
         w[j] = v;
