@@ -54,7 +54,7 @@ fn from_inverse(inverse: &[[f64; 16]; 8], rhs: [f64; 8], m: usize) -> Result<[f6
 }
 
 // The coefficients of the fit under the weights w.
-#[tactic(auto, using(checks::proofs::Tests::handed_on, crate::proofs::Eliminations::singular, crate::proofs::Eliminations::regular), unfolding(crate::specs::Estimate::eliminated_of, crate::specs::Estimate::coefficients_under))]
+#[tactic(auto, using(checks::proofs::Tests::handed_on, crate::proofs::Eliminations::singular, crate::proofs::Eliminations::regular), unfolding(crate::specs::Estimate::eliminated_of, crate::specs::Estimate::coefficients_under, crate::specs::Inverse::invert_matrix, gauss::specs::Gauss::eliminated))]
 fn coefficients_under(sample: &Sample<'_>, w: &[f64; 512]) -> Result<Coefficients, Refusal>
     ensures { result ≡ coefficients_under sample.now.setup sample.now.columns w.now }
 {

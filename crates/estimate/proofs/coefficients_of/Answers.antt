@@ -1,7 +1,7 @@
 -- `estimate::coefficients_of` meets its contract: the loop's list is the fold of `coefficient_step` up to p.
 use borrow.Author.Rules.{rules}
-use Rattle.real.proofs.Fold.{none, more, done}
-use Rattle.estimate.specs.Estimate.{coefficient_step, coefficients_of}
+use Rattle.real.proofs.Fold.{more}
+use Rattle.estimate.specs.Estimate.{coefficient_step}
 use Rattle.estimate.proofs.coefficients_of.Goals as goal
 
 pub loop-p-preserved : goal.loop-p-preserved

@@ -2,9 +2,9 @@
 use native.Mathlib.Omega.{arith}
 use Rattle.setup.specs.declared.Setup.{Setup}
 use mathlib.Core.Path.{ap, ◌∙◌}
-use Rattle.real.proofs.Fold.{none, more, done}
+use Rattle.real.proofs.Fold.{more}
 use Rattle.evaluate.proofs.Sums.{fitted_at}
-use Rattle.evaluate.specs.Evaluate.{squares_step, sum_squares}
+use Rattle.evaluate.specs.Evaluate.{squares_step}
 use Rattle.evaluate.proofs.sum_squares.Goals as goal
 
 -- left out

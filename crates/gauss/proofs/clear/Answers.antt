@@ -1,7 +1,5 @@
 -- `gauss::clear` meets its contract.
-use mathlib.Core.Path.{refl}
 use borrow.Author.Rules.{rules}
-use Rattle.real.proofs.Fold.{none, done}
 use Rattle.gauss.specs.Gauss.{cleared}
 use Rattle.gauss.proofs.Rows.{clearing}
 use Rattle.gauss.proofs.clear.Goals as goal

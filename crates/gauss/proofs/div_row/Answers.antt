@@ -1,9 +1,9 @@
 -- `gauss::div_row` meets its contract: the loop's cells, with the others behind them, are the fold of `div_step` so far.
 use borrow.Author.Rules.{rules}
 use lib.Ieee.{binary64, div}
-use Rattle.real.proofs.Fold.{more, done}
-use Rattle.gauss.specs.Gauss.{div_step, div_row}
-use Rattle.gauss.proofs.Rows.{untouched, cell_set}
+use Rattle.real.proofs.Fold.{more}
+use Rattle.gauss.specs.Gauss.{div_step}
+use Rattle.gauss.proofs.Rows.{cell_set}
 use Rattle.gauss.proofs.div_row.Goals as goal
 
 pub loop-x-preserved : goal.loop-x-preserved

@@ -1,10 +1,8 @@
 -- `gauss::eliminate` meets its contract.
 use borrow.Author.Rules.{rules}
 use mathlib.Core.Path.{sym}
-use native.Mathlib.Nat.{lt_of_lt_of_le}
-use Rattle.real.proofs.Fold.{none, more, done}
-use Rattle.gauss.specs.Gauss.{try_step, gauss_step, eliminated}
-use Rattle.gauss.proofs.Pivoting.{pivot_row, stopped}
+use Rattle.real.proofs.Fold.{more}
+use Rattle.gauss.specs.Gauss.{try_step, gauss_step}
 use Rattle.gauss.proofs.eliminate.Goals as goal
 
 pub loop-i-preserved : goal.loop-i-preserved

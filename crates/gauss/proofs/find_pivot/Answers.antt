@@ -1,6 +1,6 @@
 -- `gauss::find_pivot` meets its contract.
 use borrow.Author.Rules.{rules}
-use Rattle.real.proofs.Fold.{none, more, done}
+use Rattle.real.proofs.Fold.{more}
 use Rattle.gauss.specs.Gauss.{pivot_of, cell}
 use Rattle.gauss.proofs.find_pivot.Goals as goal
 

@@ -1,6 +1,6 @@
 -- `gauss::less_row` meets its contract.
 use borrow.Author.Rules.{rules}
-use Rattle.real.proofs.Fold.{none, more, done}
+use Rattle.real.proofs.Fold.{more}
 use mathlib.Core.Path.{refl}
 use Rattle.gauss.specs.Gauss.{less_step, less_row}
 use Rattle.gauss.proofs.less_row.Goals as goal

@@ -1,6 +1,5 @@
 -- `real::rounded` meets its contract: it works out `by_rest`, which is the nearest whole number.
-use Rattle.std.proofs.Common.{◌≡◌, ◌+◌, T, sym, ◌∙◌, subst, arith}
-use Rattle.real.proofs.Values.{above_minus_one, below_top, cut_small}
+use Rattle.std.proofs.Common.{◌≡◌, ◌+◌, T, sym, ◌∙◌, subst}
 use Rattle.real.proofs.Rounding.{by_rest, by_rest_lem}
 use Rattle.real.proofs.rounded.Goals as goal
 

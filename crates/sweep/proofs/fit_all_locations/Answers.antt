@@ -4,7 +4,7 @@ use mathlib.Core.Path.{refl, sym, ap, ◌∙◌}
 use native.Mathlib.Omega.{arith}
 use Rattle.std.specs.Prelude.{None}
 use Rattle.real.specs.Fold.{range}
-use Rattle.real.proofs.Fold.{none, more, done}
+use Rattle.real.proofs.Fold.{more}
 use Rattle.setup.specs.declared.Setup.{Setup}
 use Rattle.sweep.specs.declared.Sweep.{Sweep}
 use Rattle.sweep.specs.Sweep.{after_solve, visit, fit_all_locations}

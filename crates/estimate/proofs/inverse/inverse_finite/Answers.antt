@@ -5,8 +5,8 @@ use mathlib.Core.Bool.{Bool, ◌&&◌}
 use mathlib.Core.List.{[]}
 use native.Mathlib.Omega.{arith}
 use lib.ListN.{length, get_or}
-use Rattle.real.proofs.Fold.{none, more, done}
-use Rattle.estimate.specs.Inverse.{all_step, all_below, inverse_finite}
+use Rattle.real.proofs.Fold.{more}
+use Rattle.estimate.specs.Inverse.{all_step}
 use Rattle.estimate.proofs.Products.{row_tested}
 use Rattle.estimate.proofs.inverse.inverse_finite.Goals as goal
 

@@ -1,7 +1,7 @@
 -- `normal::equations::add_row` meets its contract: the loop's row is the fold of `cell_step` from the diagonal on.
 use borrow.Author.Rules.{rules}
-use Rattle.real.proofs.Fold.{none, more, done}
-use Rattle.normal.specs.Equations.{cell_step, add_row}
+use Rattle.real.proofs.Fold.{more}
+use Rattle.normal.specs.Equations.{cell_step}
 use Rattle.normal.proofs.DesignCells.{own_next}
 use Rattle.normal.proofs.equations.add_row.Goals as goal
 

@@ -3,8 +3,8 @@ use native.Mathlib.Omega.{arith}
 use Rattle.setup.specs.declared.Setup.{Setup}
 use mathlib.Core.Path.{ap, ◌∙◌}
 use Rattle.normal.proofs.DesignCells.{observed}
-use Rattle.real.proofs.Fold.{none, more, done}
-use Rattle.normal.specs.Equations.{normal_step, equations_of}
+use Rattle.real.proofs.Fold.{more}
+use Rattle.normal.specs.Equations.{normal_step}
 use Rattle.normal.proofs.equations.equations_of.Goals as goal
 
 -- left out

@@ -1,10 +1,8 @@
 -- `normal::equations::observe` meets its contract: the first row apart, then the loop is the fold of `observe_step` from row 1 on.
 use borrow.Author.Rules.{rules}
-use mathlib.Core.Path.{sym, ◌∙◌}
-use lib.ListN.{length}
-use Rattle.real.proofs.Fold.{none, more, done}
-use Rattle.normal.specs.Equations.{observe_step, observe}
-use Rattle.normal.proofs.DesignCells.{own_next, observe_front}
+use Rattle.real.proofs.Fold.{more}
+use Rattle.normal.specs.Equations.{observe_step}
+use Rattle.normal.proofs.DesignCells.{own_next}
 use Rattle.normal.proofs.equations.observe.Goals as goal
 
 pub loop-q-preserved : goal.loop-q-preserved

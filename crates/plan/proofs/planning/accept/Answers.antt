@@ -1,8 +1,6 @@
 -- `plan::accept` meets its contract, case by case.
 use mathlib.Core.Path.{sym, ◌∙◌}
 use Rattle.setup.specs.Data.{trusted_data}
-use Rattle.checks.proofs.Tests.{handed_on}
-use Rattle.plan.proofs.Planned.{accept_refused, accept_passed}
 use Rattle.input.proofs.Accepted.{input_accepted}
 use Rattle.plan.proofs.planning.accept.Goals as goal
 
