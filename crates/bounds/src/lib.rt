@@ -1,4 +1,5 @@
 // Between which bandwidths a search goes: 000's `fixed_bandwidth_bounds`, and the counts.
+// Limits of sizes, and room for rows, are clauses: docs/DECISIONS.md says why.
 #![tactic(auto)]
 
 ghost use Rattle.std.specs.Prelude.{◌≡◌, ◌/◌, ◌≤◌, length};

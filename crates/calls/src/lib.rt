@@ -1,4 +1,5 @@
 // The fit call on bytes, which are decoded into arrays of fixed room, since there is no heap: the parts of them that count are lent on.
+// Limits of sizes, and room for rows, are clauses: docs/DECISIONS.md says why.
 #![tactic(auto)]
 
 ghost use Rattle.std.specs.Prelude.{◌≡◌, ◌+◌, ◌*◌, ◌/◌, ◌≤◌, ◌<◌, length};

@@ -1,4 +1,5 @@
 // The uninterrupted fit, 000's `gwr_fit`: the input's checks, the search if there is one, and the final fit.
+// Limits of sizes, and room for rows, are clauses: docs/DECISIONS.md says why.
 #![tactic(auto)]
 
 ghost use Rattle.std.specs.Prelude.{◌≡◌, true, ◌*◌, ◌≤◌, length};

@@ -1,4 +1,5 @@
 // The header that `gwrprint` reads, how much it reads behind it, and which part is cut short.
+// Limits of sizes, and room for rows, are clauses: docs/DECISIONS.md says why.
 #![tactic(auto)]
 
 ghost use Rattle.std.specs.Prelude.{◌≡◌, ◌+◌, ◌*◌, ◌≤◌, ◌<◌, length};

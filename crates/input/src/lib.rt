@@ -1,4 +1,5 @@
 // The input checks in document 01's order: lists of tests, each read from its top, so that a further refusal is one line.
+// Limits of sizes, and room for rows, are clauses: docs/DECISIONS.md says why.
 #![tactic(auto)]
 
 ghost use Rattle.std.specs.Prelude.{◌≡◌, ◌&&◌, ◌*◌, ◌≤◌, length};
@@ -68,7 +69,7 @@ pub fn check_values(columns: &Columns<'_>) -> Result<(), Refusal>
 }
 
 // Whether an observation's numbers are finite and its trust lies from 0 to 1. A zero that is multiplied by a number is NaN where that is
-// not finite, and NaN is at most nothing.
+// not finite, and NaN is at most nothing. Easting and northing one by one: no place is made of what is only multiplied.
 #[tactic(auto, using(crate::proofs::Observations::good_is))]
 fn observation_good(v: f64, east: f64, north: f64, trust: f64) -> bool
     ensures { result ≡ (finite v && finite east && finite north && in_unit trust) }

@@ -1,4 +1,5 @@
 // A fit in turns: each turn makes so many steps of it as it is allowed.
+// Limits of sizes, and room for rows, are clauses: docs/DECISIONS.md says why.
 #![tactic(auto)]
 
 mod turns; // the refusals of a turn, and its run of steps

@@ -1,4 +1,5 @@
 // What `gwrprint` prints. Bytes of fixed room with how many of them count, since there is no heap.
+// Limits of sizes, and room for rows, are clauses: docs/DECISIONS.md says why.
 #![tactic(auto)]
 
 ghost use Rattle.std.specs.Prelude.{◌≡◌, ◌+◌, ◌*◌, ◌≤◌, ◌<◌, length};

@@ -1,4 +1,5 @@
 // Square roots and exponentials of many numbers in place, so that a timing of one has no call's cost in it; for crates/measured.
+// Guesses have fixed room, since there is no heap.
 #![tactic(auto)]
 
 ghost use Rattle.std.specs.Prelude.{◌≡◌, map, ◌≤◌, length};

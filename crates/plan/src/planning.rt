@@ -1,4 +1,5 @@
 // What the options ask for, and what is said of an input.
+// Limits of sizes, and room for rows, are clauses: docs/DECISIONS.md says why.
 ghost use Rattle.std.specs.Prelude.{◌≡◌, ◌*◌, ◌≤◌, length};
 ghost use Rattle.setup.specs.Shape.{Sized};
 ghost use Rattle.bounds.specs.Bounds.{greatest_distance};

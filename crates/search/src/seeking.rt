@@ -66,7 +66,7 @@ fn golden_section_min(problem: &Problem<'_>, lo: f64, hi: f64) -> Search
     s
 }
 
-// 000's `optimize_bandwidth` from lo to hi: the bandwidth at the best point.
+// 000's `optimize_bandwidth` from lo to hi, two numbers as there: the bandwidth at the best point.
 #[tactic(auto, using(crate::proofs::Solves::optimum_made), unfolding(crate::specs::Search::optimize_bandwidth))]
 pub fn optimize_bandwidth(problem: &Problem<'_>, lo: f64, hi: f64) -> Optimum
     ensures value { result ≡ optimize_bandwidth problem.now.setup problem.now.columns lo hi }

@@ -121,7 +121,7 @@ fn greatest_below(s: &[f64], hi: f64) -> f64 {
     real::max(real::max(a, b), real::max(c, d))
 }
 
-// The m-th smallest of s, each of them judged.
+// The m-th smallest of s, each of them judged. `otherwise` is no `Option`'s None: brackets begin with it as their top.
 #[tactic(auto, unfolding(crate::specs::Kth::kth_smallest, crate::specs::Kth::kth_step))]
 fn each(s: &[f64], m: usize, otherwise: f64) -> f64
     requires { length s.now < 2 ^ 32 }

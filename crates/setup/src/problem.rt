@@ -137,7 +137,7 @@ impl<'a> Problem<'a> {
         &self.sample
     }
 
-    // Options and sizes.
+    // Options and sizes, handed on from the sample, as coordinates are.
     pub fn setup(&self) -> Setup
         ensures setup { result ≡ self.now.setup }
         ensures shaped { Shaped self.now.setup self.now.columns }

@@ -157,7 +157,7 @@ fn lend(from: &[f64], to: &mut [f64], last: Option<f64>) {
     }
 }
 
-// A turn of this kind.
+// A turn of this kind, lent what it is to be lent in arrays of fixed room, since there is no heap.
 fn turn_of(kind: Kind, j: Job, columns: &Columns<'_>, out: &mut [f64], allowance: u32) -> Turned {
     let mut coords = [0.0; 24];
     let mut x = [0.0; 36];

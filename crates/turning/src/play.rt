@@ -144,7 +144,8 @@ fn answered_so(turned: Turned, want: Option<Refusal>, fit: Finish, seen: Seen) -
     }
 }
 
-// Whether a list ended with the fit's refusal, rows and summary, and its turns made as many steps as the fit made solves.
+// Whether a list ended with the fit's refusal, rows and summary, and its turns made as many steps as the fit made solves. Reals by
+// their bits, so not by derived equality.
 fn ended_so(fit: Finish, f: Finish, seen: Seen) -> bool {
     let reals = compare::same_real(fit.summary.bandwidth, f.summary.bandwidth)
         & compare::same_real(fit.summary.aicc, f.summary.aicc);

@@ -1,4 +1,4 @@
-// Numbers as 8 little-endian bytes, and reals by their bits.
+// Numbers as 8 little-endian bytes, and reals by their bits. The functions have the names of the definitions that contracts cite.
 #![tactic(auto)]
 
 ghost use Rattle.std.specs.Prelude.{◌≡◌, ◌++◌, ◌+◌, ◌*◌, ◌^◌, ◌≤◌, ◌<◌, length, take, drop};
