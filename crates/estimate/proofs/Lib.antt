@@ -3,4 +3,3 @@ pub mod Lengths
 pub mod NormalEquations
 pub mod Meanings
 pub mod Blind
-pub mod Eliminations

@@ -26,11 +26,6 @@ coefficients_of a rhs m = range (coefficient_step a rhs m) 0 m (replicate 8 zero
 unfoldable pub coefficients_finite : Row → ℕ → Bool
 coefficients_finite beta m = all_below (λ q. finite (get_or beta q nan)) m
 
--- coefficients that were found, beside the inverse that they are of
-abbrev pub beside : Result Row Refusal → Matrix → Result Coefficients Refusal
-beside (Ok beta) a = Ok (record { beta = beta; inverse = a })
-beside (Err r) a = Err r
-
 -- the end of `invert_matrix` and β: first 15 where the inverse is not finite, then 16 where a coefficient is not
 unfoldable pub from_inverse : Matrix → Row → ℕ → Result Coefficients Refusal
 from_inverse a rhs m =

@@ -1,19 +1,16 @@
 // The inverse of the matrix of the normal equations: the right half of the eliminated matrix, of which m rows count.
-ghost use Rattle.std.specs.Prelude.{◌≡◌, ◌*◌, ◌≤◌, ◌<◌};
-ghost use Rattle.gauss.specs.Gauss.{elimination, left_in};
-ghost use Rattle.normal.specs.Augmented.{augmented_matrix};
-ghost use Rattle.estimate.specs.Inverse.{inverse_times, inverse_finite};
+ghost use Rattle.std.specs.Prelude.{◌≡◌, ◌≤◌, ◌<◌};
+ghost use Rattle.estimate.specs.Inverse.{invert_matrix, inverse_times, inverse_finite};
 
 use crate::inner::inner_product;
 
-// 000's `invert_matrix` of the matrix of m rows whose upper triangle is a, up to its last check, into a matrix that is lent: none where
-// it is singular.
-pub fn invert_matrix(a: &[[f64; 8]; 8], m: usize, into: &mut [[f64; 16]; 8]) -> Option<()>
+// 000's `invert_matrix` of the matrix of m rows whose upper triangle is a, up to its last check: none where it is singular.
+#[tactic(auto, unfolding(crate::specs::Inverse::invert_matrix))]
+pub fn invert_matrix(a: &[[f64; 8]; 8], m: usize) -> Option<[[f64; 16]; 8]>
     requires { m ≤ 8 }
-    ensures { left_in result into.new ≡ elimination (augmented_matrix a.now m) m (2 * m) }
+    ensures { result ≡ invert_matrix a.now m }
 {
-    *into = normal::augmented_matrix(a, m);
-    gauss::eliminate(into, m, 2 * m)
+    gauss::eliminate(normal::augmented_matrix(a, m), m, 2 * m)
 }
 
 // The inner product of a row of the inverse, which stands from cell m on, with v.

@@ -1,11 +1,11 @@
 // The coefficients of a weighted fit at a place, from the weights of the observations seen from there.
 //
-// Weights, coefficients and matrices have fixed room, since there is no heap: n, m and m rows of them count.
+// Weights, coefficients and matrices have fixed room, since there is no heap: n weights, m coefficients and m rows count.
 // Weights come beside the sample and their sum, as the definitions take them: no clause says that the sum is theirs.
 #![tactic(auto)]
 
 ghost use Rattle.std.specs.Prelude.{◌≡◌, ◌≤◌};
-ghost use Rattle.estimate.specs.Estimate.{coefficients_of, beside, from_inverse, coefficients_under, fit_coefficients};
+ghost use Rattle.estimate.specs.Estimate.{coefficients_of, from_inverse, coefficients_under, fit_coefficients};
 
 use refusal::Refusal;
 use setup::Sample;
@@ -38,32 +38,30 @@ fn coefficients_of(a: &[[f64; 16]; 8], rhs: [f64; 8], m: usize) -> [f64; 8]
 }
 
 // The coefficients from an eliminated matrix, whose right half is the inverse.
-#[tactic(auto, using(crate::proofs::Lengths::coefficients_eight, crate::proofs::Products::coefficients_tested), unfolding(crate::specs::Estimate::from_inverse))]
-fn from_inverse(inverse: &[[f64; 16]; 8], rhs: [f64; 8], m: usize) -> Result<[f64; 8], Refusal>
+fn from_inverse(inverse: [[f64; 16]; 8], rhs: [f64; 8], m: usize) -> Result<Coefficients, Refusal>
     requires { m ≤ 8 }
-    ensures { beside result inverse.now ≡ from_inverse inverse.now rhs m }
+    ensures { result ≡ from_inverse inverse rhs m }
 {
-    if !inverse::inverse_finite(inverse, m) {
+    if !inverse::inverse_finite(&inverse, m) {
         return Err(Refusal::InverseNotFinite);
     }
-    let beta = coefficients_of(inverse, rhs, m);
+    let beta = coefficients_of(&inverse, rhs, m);
     if !real::all_finite(&beta[..m]) {
         return Err(Refusal::CoefficientNotFinite);
     }
-    Ok(beta)
+    Ok(Coefficients { beta, inverse })
 }
 
 // The coefficients of the fit under the weights w.
-#[tactic(auto, using(checks::proofs::Tests::handed_on, crate::proofs::Eliminations::singular, crate::proofs::Eliminations::regular), unfolding(crate::specs::Estimate::eliminated_of, crate::specs::Estimate::coefficients_under, crate::specs::Inverse::invert_matrix, gauss::specs::Gauss::eliminated))]
 fn coefficients_under(sample: &Sample<'_>, w: &[f64; 512]) -> Result<Coefficients, Refusal>
     ensures { result ≡ coefficients_under sample.now.setup sample.now.columns w.now }
 {
     let m = sample.setup().p + 1;
     let e = normal::equations_of(sample, w);
-    let mut inverse = [[0.0; 16]; 8];
-    inverse::invert_matrix(&e.a, m, &mut inverse).ok_or(Refusal::Singular)?;
-    let beta = from_inverse(&inverse, e.rhs, m)?;
-    Ok(Coefficients { beta, inverse })
+    match inverse::invert_matrix(&e.a, m) {
+        Some(inverse) => from_inverse(inverse, e.rhs, m),
+        None => Err(Refusal::Singular),
+    }
 }
 
 // The same under weights with this sum: 27 where that is not above zero.

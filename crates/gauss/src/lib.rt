@@ -5,7 +5,7 @@
 #![tactic(auto)]
 
 ghost use Rattle.std.specs.Prelude.{◌≡◌, ◌≤◌, ◌<◌};
-ghost use Rattle.gauss.specs.Gauss.{pivot_step, pivot_of, div_row, less_row, clear_row, cleared, reduced, elimination, left_in};
+ghost use Rattle.gauss.specs.Gauss.{pivot_step, pivot_of, div_row, less_row, clear_row, cleared, reduced, eliminated};
 
 // The row and the magnitude of a pivot.
 #[derive(Clone, Copy)]
@@ -109,20 +109,18 @@ fn reduce(a: &mut [[f64; 16]; 8], i: usize, n: usize, m: usize, p: usize)
     clear(&mut *a, i, n, m);
 }
 
-// The elimination over n rows and m columns, as far as it comes: none where a pivot is below 1e-12, that is, the matrix is singular. In place, since a
-// matrix in an `Option` is copied by each that hands it on, which a fit of few observations pays for. The refusal is the caller's to name.
-#[tactic(auto, using(real::proofs::Fold::none, crate::proofs::Pivoting::stopped, crate::proofs::Pivoting::pivot_row, real::proofs::Fold::done), unfolding(crate::specs::Gauss::try_step, crate::specs::Gauss::gauss_step, crate::specs::Gauss::elimination))]
-pub fn eliminate(a: &mut [[f64; 16]; 8], n: usize, m: usize) -> Option<()>
+// The elimination over n rows and m columns, on one matrix in place: none where a pivot is below 1e-12, that is, the matrix is singular.
+pub fn eliminate(mut a: [[f64; 16]; 8], n: usize, m: usize) -> Option<[[f64; 16]; 8]>
     requires { (n ≤ 8) × (m ≤ 16) }
-    ensures { left_in result a.new ≡ elimination a.old n m }
+    ensures { result ≡ eliminated a n m }
 {
     // An index: step i is about row and column i.
     for i in 0..n {
-        let p = find_pivot(&*a, i, n);
+        let p = find_pivot(&a, i, n);
         if p.val < 1e-12 {
             return None;
         }
-        reduce(&mut *a, i, n, m, p.row);
+        reduce(&mut a, i, n, m, p.row);
     }
-    Some(())
+    Some(a)
 }

@@ -29,7 +29,7 @@ impl GwrKernel {
     }
 }
 
-// The square of a bandwidth in use, if its root, judged here, reaches the bandwidth.
+// The square of a bandwidth in use, if the root of that square, taken here, reaches the bandwidth.
 #[tactic(auto, unfolding(crate::specs::Reach::bisquare_reach, crate::specs::Weight::unusable))]
 fn bisquare_reach(b: f64) -> Option<f64>
     ensures { result ≡ bisquare_reach b }

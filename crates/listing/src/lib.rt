@@ -13,8 +13,8 @@ ghost use Rattle.listing.specs.Printed.{printed};
 use header::Head;
 use refusal::Refusal;
 
-// The text of a fit that answered so, with n rows of `width` numbers. Of the text as much room is asked as the longest listing takes: an
-// array would be of that very length.
+// The text of a fit that answered so, with n rows of `width` numbers. The text is a slice with at least the
+// room of the longest listing: an array's type would ask for exactly that length.
 #[tactic(auto, using(refusal::proofs::Range::numbered, crate::proofs::Texts::number_small), unfolding(crate::specs::Jobs::answer_text))]
 fn print_answer(
     answer: Result<(), Refusal>,

@@ -38,7 +38,7 @@ fn settle_each(values: &mut [f64], guesses: &[f64; 512])
     requires { length values.old ≤ 512 }
     ensures { values.new ≡ map root values.old }
 {
-    // An index: what a zip with the guesses writes is known of no number afterwards.
+    // By numbers: of what a zip with the guesses writes a proof knows nothing afterwards.
     for (i, v) in values.iter_mut().enumerate() {
         *v = root::sqrt_near(*v, guesses[i]);
     }

@@ -45,7 +45,7 @@ pub extern "C" fn zescolumba_exponentials(values: &mut [f64])
     mapped::exponentials(values);
 }
 
-// The kernel of a number that the C interface has: unlike that of a byte call it refuses none.
+// The kernel of the C interface's number, which, unlike a byte call's, is never refused.
 #[tactic(auto, unfolding(crate::specs::Turns::kernel_by, kernel::specs::Numbers::kernel_of))]
 fn kernel_by(number: u32) -> GwrKernel
     ensures { result ≡ kernel_by number }
@@ -175,7 +175,7 @@ pub extern "C" fn zescolumba_walk(
     0
 }
 
-// The criterion of a number that the C interface has and no byte call: it refuses none.
+// The criterion of the C interface's number, which no byte call has; none is refused.
 #[tactic(auto, unfolding(crate::specs::Fits::criterion_by))]
 fn criterion_by(number: u32) -> GwrCriterion
     ensures { result ≡ criterion_by number }

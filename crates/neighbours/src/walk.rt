@@ -35,7 +35,7 @@ impl Model for Walker {
     } };
 }
 
-// Whether pantry j is the walk's own: the definition's word.
+// Whether pantry j is the walk's own: a function, since the definition of `pass` tests it by this name.
 #[tactic(auto, using(crate::proofs::Walks::own_is))]
 fn is_own(own: Option<usize>, j: usize) -> bool
     ensures { result ≡ is_own own j }

@@ -1,4 +1,4 @@
-// Helpers on f64, most of which the Rust takes from its library. What each means is its contract.
+// Helpers on f64, most of which 000 takes from Rust's library. What each means is its contract.
 #![tactic(auto)]
 
 ghost use Rattle.std.specs.Prelude.{◌≡◌, ◌*◌, ◌^◌, ◌<◌, ◌≤◌, false, ◌&&◌, T, length, take, from_bits};

@@ -70,7 +70,6 @@ impl Refusal {
 }
 
 // The same number, as a conversion: `u32::from`.
-// The same, where a conversion is asked for.
 impl From<Refusal> for u32 {
     ghost from_gives = { λ refusal number. number ≡ refusal_number refusal };
 

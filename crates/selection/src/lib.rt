@@ -121,7 +121,7 @@ fn greatest_below(s: &[f64], hi: f64) -> f64 {
     real::max(real::max(a, b), real::max(c, d))
 }
 
-// The m-th smallest of s, each of them judged. `otherwise` is no `Option`'s None: brackets begin with it as their top.
+// The m-th smallest of s, each of them judged.
 #[tactic(auto, unfolding(crate::specs::Kth::kth_smallest, crate::specs::Kth::kth_step))]
 fn each(s: &[f64], m: usize, otherwise: f64) -> f64
     requires { length s.now < 2 ^ 32 }
@@ -131,8 +131,8 @@ fn each(s: &[f64], m: usize, otherwise: f64) -> f64
         .fold(otherwise, |v, x| if is_kth(s, m, *x) { *x } else { v })
 }
 
-// The m-th smallest of s, `otherwise` where they are fewer: found by brackets, which end at about `otherwise` where that is the
-// greatest. Numbers that are equal keep a bracket from having one number only, so it is judged after every 16 cuts. Where the
+// The m-th smallest of s, `otherwise` where they are fewer, which is no `Option`'s None: found by brackets, which end at about
+// `otherwise` where that is the greatest. Numbers that are equal keep a bracket from having one number only, so it is judged after every 16 cuts. Where the
 // brackets find none (some are infinite or NaN, or many differ by next to nothing), each number is judged.
 #[tactic(auto, using(crate::proofs::Counts::selected, crate::proofs::Counts::selected_few))]
 pub fn select(s: &[f64], m: usize, otherwise: f64) -> f64

@@ -1,6 +1,6 @@
 // What a job is: its bandwidth, its options, and its sizes. None of these changes while it is worked.
 //
-// No type here says what is usable, or fits: a bandwidth or a size that is handed over may be anything, and is refused with its number. Behind
+// No type but `Sample` and `Problem` says that sizes fit, and none that a bandwidth is usable: a bandwidth or a size that is handed over may be anything, and is refused with its number. Behind
 // the checks what is known of them is a clause: `Setup` is a part of the record, which may be unfit.
 #![tactic(auto)]
 
@@ -41,12 +41,12 @@ pub enum GwrCriterion {
     Guarded,
 }
 
-// 000's options, and the criterion.
+// 000's options, a flag among them, and the criterion.
 #[derive(Clone, Copy, PartialEq, Debug)]
 pub struct GwrOptions {
     pub kernel: GwrKernel,
     pub bandwidth: GwrBandwidth,
-    pub optimize_bandwidth: bool, // a flag, as in 000's options
+    pub optimize_bandwidth: bool,
     pub criterion: GwrCriterion,
 }
 

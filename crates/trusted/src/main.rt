@@ -1,6 +1,6 @@
 // Fits fixed jobs whose trusts may surprise, and their plain neighbours, and prints each as `gwrprint` prints a job: the line of the
 // fit, and a line for each row. rust/oracle/src/trusts.rs holds what is stored of it against 000.
-// The lines go out through the handle: what `text` writes to bytes is for a proof.
+// Printed through the handle: `text` writes to bytes, so that a proof can speak of them.
 #![tactic(auto)]
 
 ghost use Rattle.std.specs.Prelude.{◌≤◌, ◌<◌};

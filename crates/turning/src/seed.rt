@@ -1,7 +1,7 @@
 // The pseudo-random sequence that jobs and turns are drawn from.
 ghost use Rattle.std.specs.Prelude.{◌^◌, ◌<◌};
 
-// A number of the sequence.
+// A number of the sequence, or half of one.
 #[derive(Clone, Copy)]
 pub struct Seed {
     digits: u64,

@@ -23,7 +23,7 @@ fn settle_all(coords: &[f64], place: Place, y: &mut [f64])
     requires { 2 * length y.old ≤ length coords.now }
     ensures { Filled (near_distance coords.now place.east place.north) (length y.new) y.new }
 {
-    // By numbers: a place is two of coords for one of y, and what a zip of them writes is not known behind it.
+    // By numbers: a place is two of coords for one of y, and of what a zip writes a proof knows nothing afterwards.
     for (j, d) in y.iter_mut().enumerate() {
         *d = place.settle_distance(Place::at(coords, j), *d);
     }
@@ -56,7 +56,7 @@ pub fn weigh_all(
     settle_all(coords, place, &mut *y);
     kernel_all(kernel, b, &mut *y);
     let mut sum = 0.0;
-    // By an index: distances, trusts and weights stand side by side, and what a zip of them writes is not known behind it.
+    // By an index: distances, trusts and weights stand side by side, and of what a zip writes a proof knows nothing afterwards.
     for j in 0..trusts.len() {
         let v = y[j] * trusts[j];
         w[j] = v;

@@ -44,7 +44,7 @@ pub fn decode(s: &[u8], into: &mut [f64])
     requires { 8 * length into.old ≤ length s.now }
     ensures { into.new ≡ reals s.now (length into.old) }
 {
-    // An index: what a zip with the chunks writes is known of no element afterwards.
+    // By numbers: of what a zip with the chunks writes a proof knows nothing afterwards.
     for (k, x) in into.iter_mut().enumerate() {
         *x = real_of(load(s, 8 * k));
     }
@@ -55,7 +55,7 @@ pub fn encode(from: &[f64], s: &mut [u8])
     requires { 8 * length from.now ≤ length s.old }
     ensures { s.new ≡ real_bytes from.now ++ drop (8 * length from.now) s.old }
 {
-    // An index: what is written to chunks of s is known of no element afterwards.
+    // By numbers: of what is written to chunks of s a proof knows nothing afterwards.
     for (k, x) in from.iter().enumerate() {
         store(s, 8 * k, bits_of(*x));
     }
