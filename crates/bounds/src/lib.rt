@@ -1,7 +1,8 @@
 // Between which bandwidths a search goes: 000's `fixed_bandwidth_bounds`, and the counts.
+// Limits of sizes, and room for rows, are clauses: docs/DECISIONS.md says why.
 #![tactic(auto)]
 
-ghost use Rattle.std.specs.Prelude.{◌≡◌, ◌*◌, ◌≤◌, ◌<◌, length};
+ghost use Rattle.std.specs.Prelude.{◌≡◌, ◌/◌, ◌≤◌, length};
 ghost use Rattle.setup.specs.Shape.{Sized};
 ghost use Rattle.bounds.specs.Bounds.{greatest_distance, least_distance, usable_distance, least_count, greatest_count, bandwidth_at};
 
@@ -9,24 +10,17 @@ use kernel::Place;
 use setup::{GwrBandwidth, Setup};
 
 // The greatest distance between two pantries, 0 where there is no pair.
-pub fn greatest_distance(coords: &[f64], n: usize) -> f64
-    requires { (length coords.now ≡ 2 * n) × (n ≤ 512) }
-    ensures { result ≡ greatest_distance coords.now n }
+pub fn greatest_distance(coords: &[f64]) -> f64
+    requires { length coords.now ≤ 1024 }
+    ensures { result ≡ greatest_distance coords.now (length coords.now / 2) }
 {
-    let (pantries, _) = coords.as_chunks::<2>();
+    let n = coords.len() / 2;
     let mut most = 0.0;
-    // An index: each pantry is held against those behind it.
+    // By numbers: pairs i < j, whose places are read by them.
     for i in 0..n {
-        let here = Place {
-            east: pantries[i][0],
-            north: pantries[i][1],
-        };
-        for there in &pantries[i + 1..] {
-            let there = Place {
-                east: there[0],
-                north: there[1],
-            };
-            most = real::max(most, here.distance(there));
+        let here = Place::at(coords, i);
+        for j in i + 1..n {
+            most = real::max(most, here.distance(Place::at(coords, j)));
         }
     }
     most

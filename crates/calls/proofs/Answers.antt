@@ -82,8 +82,8 @@ module _ (d : Data) (p : ℕ) (o : GwrOptions) (out : List Float) (z : Result Fi
     pub rows_fit : f.rows * (p + 4) ≤ length out
     rows_fit = subst (λ (y : Result Fit Refusal). rows_written y * (p + 4) ≤ length out) made sound.rows
 
-    pub rows_long : length after ≡ length out
-    rows_long = sound.long
+    pub rows_within : f.rows * (p + 4) ≤ length after
+    rows_within = omega (arith, rows_fit, sound.long)
 
     pub fit_some : 1 ≤ length out
     fit_some = (subst (λ (y : Result Fit Refusal). IfOk y (λ g. Made (length d.coords / 2) (length out) g)) made sound.sound).some

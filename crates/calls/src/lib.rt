@@ -1,8 +1,9 @@
-// The fit call on bytes.
+// The fit call on bytes, which are decoded into arrays of fixed room, since there is no heap: the parts of them that count are lent on.
+// Limits of sizes, and room for rows, are clauses: docs/DECISIONS.md says why.
 #![tactic(auto)]
 
-ghost use Rattle.std.specs.Prelude.{◌≡◌, ◌+◌, ◌*◌, ◌/◌, ◌≤◌, ◌<◌, length, take};
-ghost use Rattle.wire.specs.Wire.{real_bytes, placed};
+ghost use Rattle.std.specs.Prelude.{◌≡◌, ◌+◌, ◌*◌, ◌/◌, ◌≤◌, ◌<◌, length};
+ghost use Rattle.wire.specs.Wire.{placed};
 ghost use Rattle.calls.specs.Calls.{room_of, summary_bytes, fitted_bytes, fit_parts, fit_bytes, Offered};
 ghost use Rattle.request.specs.Answer.{answer_number};
 ghost use Rattle.request.specs.Lengths.{ByteLengths};
@@ -13,6 +14,7 @@ use refusal::Refusal;
 use setup::{Columns, GwrOptions};
 
 // How many numbers the fit may write: n rows, or none where output or summary has too few bytes.
+#[tactic(auto, unfolding(crate::specs::Calls::room_of))]
 fn room_of(n: usize, p: usize, out: usize, summary: usize) -> usize
     requires { (n ≤ 512) × (p ≤ 7) }
     ensures { result ≡ room_of n p out summary }
@@ -26,6 +28,7 @@ fn room_of(n: usize, p: usize, out: usize, summary: usize) -> usize
     n * (p + 4)
 }
 
+#[tactic(auto, using(crate::proofs::Bytes::summary_placed))]
 fn store_summary(s: &mut [u8], v: Summary)
     requires { 24 ≤ length s.old }
     ensures { s.new ≡ placed s.old 0 (summary_bytes v) }
@@ -35,15 +38,8 @@ fn store_summary(s: &mut [u8], v: Summary)
     wire::store(&mut *s, 16, v.solves);
 }
 
-// The first `count` numbers of the rows, as bytes.
-fn store_rows(rows: &[f64], count: usize, out: &mut [u8])
-    requires { (count ≤ length rows.now) × (8 * count ≤ length out.old) }
-    ensures { out.new ≡ placed out.old 0 (real_bytes (take count rows.now)) }
-{
-    wire::encode(&rows[..count], out);
-}
-
 // The fit of decoded numbers, with `rows` as its output. Rows and summary go out as bytes, unless the input was refused.
+#[tactic(auto, using(crate::proofs::Answers::rows_fit, crate::proofs::Answers::rows_within))]
 fn fitted_bytes(
     columns: &Columns<'_>,
     p: usize,
@@ -56,7 +52,7 @@ fn fitted_bytes(
     ensures { (answer_number result, (out.new, summary.new)) ≡ fitted_bytes p (gwr_fit columns.now p options rows.old) out.old summary.old }
 {
     let fit = gwr::gwr_fit(columns, p, options, &mut *rows)?;
-    store_rows(&*rows, fit.rows * (p + 4), out);
+    wire::encode(&rows[..fit.rows * (p + 4)], out);
     store_summary(summary, fit.finish.summary);
     match fit.finish.refusal {
         Some(r) => Err(r),
@@ -64,7 +60,8 @@ fn fitted_bytes(
     }
 }
 
-// The fit of slices of the right lengths, every observation fully trusted.
+// The fit of slices of the right lengths, every observation fully trusted. Slices one by one, as document 01's call lends them.
+#[tactic(auto, using(crate::proofs::Answers::room_small))]
 fn fit_parts(
     coords: &[u8],
     x: &[u8],
@@ -99,7 +96,9 @@ fn fit_parts(
     fitted_bytes(&columns, p, options, &mut rows[..room], out, summary)
 }
 
-// The fit call: coordinates, predictors and responses as bytes, rows and summary to the bytes lent.
+// The fit call: coordinates, predictors and responses as bytes, rows and summary to the bytes lent. Numbers and slices one by one, since
+// they are the C interface's, which document 01 lists.
+#[tactic(auto, using(request::proofs::Lengths::passed, crate::proofs::Judged::call_unknown, crate::proofs::Judged::call_bytes, crate::proofs::Judged::call_parts))]
 pub fn fit_bytes(
     coords: &[u8],
     x: &[u8],

@@ -9,6 +9,7 @@ ghost use Rattle.criterion.specs.Aicc.{pi64, corrected_aic, criterion_of, exhaus
 
 use refusal::Refusal;
 use setup::{GwrCriterion, Setup};
+use std::f64::consts::PI;
 
 // What a fit reports beside its rows.
 #[derive(Clone, Copy)]
@@ -32,6 +33,7 @@ impl Summary {
 }
 
 // A trial's score: its AICc, or plus infinity where that is refused or not finite.
+#[tactic(auto, using(real::proofs::Std::infinity_same), unfolding(crate::specs::Aicc::score_of))]
 pub fn score_of(ending: Result<f64, Refusal>) -> f64
     ensures { result ≡ score_of ending }
 {
@@ -42,6 +44,7 @@ pub fn score_of(ending: Result<f64, Refusal>) -> f64
 }
 
 // AICc of n observations from the sum of squared residuals and the trace of the hat matrix.
+#[tactic(auto, unfolding(crate::specs::Aicc::corrected_aic, crate::specs::Published::deviation))]
 pub fn corrected_aic(u: Setup, rss: f64, trace: f64) -> Result<f64, Refusal>
     requires { u.n < 2 ^ 32 }
     ensures { result ≡ corrected_aic u rss trace }
@@ -55,6 +58,7 @@ pub fn corrected_aic(u: Setup, rss: f64, trace: f64) -> Result<f64, Refusal>
 }
 
 // AICc of n observations from the root of mean square and the trace: plus infinity where no degree of freedom is left.
+#[tactic(auto, using(real::proofs::Std::infinity_same), unfolding(crate::specs::Aicc::criterion_of, crate::specs::Published::freedom))]
 fn criterion_of(criterion: GwrCriterion, nf: f64, sigma: f64, trace: f64) -> f64
     ensures { result ≡ criterion_of criterion nf sigma trace }
 {
@@ -66,6 +70,7 @@ fn criterion_of(criterion: GwrCriterion, nf: f64, sigma: f64, trace: f64) -> f64
 }
 
 // Whether the degrees of freedom are within 2^-52 of none. Fewer than none are only where guarded; no number is never.
+#[tactic(auto, unfolding(crate::specs::Aicc::exhausted))]
 fn is_exhausted(criterion: GwrCriterion, d: f64) -> bool
     ensures { result ≡ exhausted criterion d }
 {
@@ -76,6 +81,7 @@ fn is_exhausted(criterion: GwrCriterion, d: f64) -> bool
 }
 
 // A perfect fit's deviation of zero counts as the least normal number.
+#[tactic(auto, unfolding(crate::specs::Aicc::floored))]
 fn floored(sigma: f64) -> f64
     ensures { result ≡ floored sigma }
 {
@@ -87,11 +93,12 @@ fn floored(sigma: f64) -> f64
 }
 
 // The criterion's three terms, added in 000's order.
+#[tactic(auto, unfolding(crate::specs::Published::aicc_formula))]
 fn aicc_formula(nf: f64, sigma: f64, trace: f64, d: f64) -> f64
     requires { d ≡ freedom rounded nf trace }
     ensures { result ≡ aicc_formula rounded pi64 lnv nf sigma trace }
 {
     let fit = (2.0 * nf) * elementary::ln(sigma);
-    let constant = nf * elementary::ln(2.0 * 3.141592653589793);
+    let constant = nf * elementary::ln(2.0 * PI);
     (fit + constant) + (nf * (nf + trace)) / d
 }

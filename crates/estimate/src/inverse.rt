@@ -1,10 +1,11 @@
-// The inverse of the matrix of the normal equations: the right half of the eliminated matrix.
+// The inverse of the matrix of the normal equations: the right half of the eliminated matrix, of which m rows count.
 ghost use Rattle.std.specs.Prelude.{◌≡◌, ◌≤◌, ◌<◌};
 ghost use Rattle.estimate.specs.Inverse.{invert_matrix, inverse_times, inverse_finite};
 
 use crate::inner::inner_product;
 
 // 000's `invert_matrix` of the matrix of m rows whose upper triangle is a, up to its last check: none where it is singular.
+#[tactic(auto, unfolding(crate::specs::Inverse::invert_matrix))]
 pub fn invert_matrix(a: &[[f64; 8]; 8], m: usize) -> Option<[[f64; 16]; 8]>
     requires { m ≤ 8 }
     ensures { result ≡ invert_matrix a.now m }
@@ -13,6 +14,7 @@ pub fn invert_matrix(a: &[[f64; 8]; 8], m: usize) -> Option<[[f64; 16]; 8]>
 }
 
 // The inner product of a row of the inverse, which stands from cell m on, with v.
+#[tactic(auto, using(crate::proofs::Products::inverse_inner))]
 pub fn inverse_times(a: &[[f64; 16]; 8], p: usize, v: [f64; 8], m: usize) -> f64
     requires { (p < 8) × (m ≤ 8) }
     ensures { result ≡ inverse_times a.now m p v }
@@ -21,6 +23,7 @@ pub fn inverse_times(a: &[[f64; 16]; 8], p: usize, v: [f64; 8], m: usize) -> f64
 }
 
 // Whether the inverse is finite.
+#[tactic(auto, using(real::proofs::Fold::none, crate::proofs::Products::row_tested, real::proofs::Fold::done), unfolding(crate::specs::Inverse::all_step, crate::specs::Inverse::all_below, crate::specs::Inverse::inverse_finite))]
 pub fn inverse_finite(a: &[[f64; 16]; 8], m: usize) -> bool
     requires { m ≤ 8 }
     ensures { result ≡ inverse_finite a.now m }

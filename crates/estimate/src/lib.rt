@@ -1,11 +1,14 @@
 // The coefficients of a weighted fit at a place, from the weights of the observations seen from there.
+//
+// Weights, coefficients and matrices have fixed room, since there is no heap: n weights, m coefficients and m rows count.
+// Weights come beside the sample and their sum, as the definitions take them: no clause says that the sum is theirs.
 #![tactic(auto)]
 
 ghost use Rattle.std.specs.Prelude.{◌≡◌, ◌≤◌};
 ghost use Rattle.estimate.specs.Estimate.{coefficients_of, from_inverse, coefficients_under, fit_coefficients};
 
 use refusal::Refusal;
-use setup::Problem;
+use setup::Sample;
 
 mod inner;
 mod inverse;
@@ -21,12 +24,13 @@ pub struct Coefficients {
 }
 
 // The coefficients: the inverse times the right-hand side.
+#[tactic(auto, using(real::proofs::Fold::none, real::proofs::Fold::done), unfolding(crate::specs::Estimate::coefficient_step, crate::specs::Estimate::coefficients_of))]
 fn coefficients_of(a: &[[f64; 16]; 8], rhs: [f64; 8], m: usize) -> [f64; 8]
     requires { m ≤ 8 }
     ensures { result ≡ coefficients_of a.now rhs m }
 {
     let mut beta = [0.0; 8];
-    // An index, since `inverse_times` takes it.
+    // An index: row p of the inverse gives coefficient p. `array::from_fn` would ask of each of the 8 whether it counts.
     for p in 0..m {
         beta[p] = inverse::inverse_times(a, p, rhs, m);
     }
@@ -49,27 +53,28 @@ fn from_inverse(inverse: [[f64; 16]; 8], rhs: [f64; 8], m: usize) -> Result<Coef
 }
 
 // The coefficients of the fit under the weights w.
-fn coefficients_under(problem: &Problem<'_>, w: &[f64; 512]) -> Result<Coefficients, Refusal>
-    ensures { result ≡ coefficients_under problem.now.setup problem.now.columns w.now }
+fn coefficients_under(sample: &Sample<'_>, w: &[f64; 512]) -> Result<Coefficients, Refusal>
+    ensures { result ≡ coefficients_under sample.now.setup sample.now.columns w.now }
 {
-    let m = problem.setup().p + 1;
-    let e = normal::equations_of(problem, w);
+    let m = sample.setup().p + 1;
+    let e = normal::equations_of(sample, w);
     match inverse::invert_matrix(&e.a, m) {
         Some(inverse) => from_inverse(inverse, e.rhs, m),
         None => Err(Refusal::Singular),
     }
 }
 
-// The same under weights with this sum, which must be above zero.
+// The same under weights with this sum: 27 where that is not above zero.
+#[tactic(auto, unfolding(crate::specs::Estimate::fit_coefficients))]
 pub fn fit_coefficients(
-    problem: &Problem<'_>,
+    sample: &Sample<'_>,
     w: &[f64; 512],
     sum: f64,
 ) -> Result<Coefficients, Refusal>
-    ensures { result ≡ fit_coefficients problem.now.setup problem.now.columns w.now sum }
+    ensures { result ≡ fit_coefficients sample.now.setup sample.now.columns w.now sum }
 {
     if sum > 0.0 {
-        coefficients_under(problem, w)
+        coefficients_under(sample, w)
     } else {
         Err(Refusal::WeightSumNotPositive)
     }

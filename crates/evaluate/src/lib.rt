@@ -1,4 +1,7 @@
 // What a fit says of the location that it was made for: prediction, residual, local R² and leverage.
+//
+// Weights have fixed room, since there is no heap: those of the n observations count. They
+// come beside the sample and their sum, as the definitions take them: no clause says that the sum is theirs.
 #![tactic(auto)]
 
 ghost use Rattle.std.specs.Prelude.{◌≡◌, ◌+◌, ◌≤◌, ◌<◌, length};
@@ -6,7 +9,7 @@ ghost use Rattle.normal.specs.Design.{design_of};
 ghost use Rattle.evaluate.specs.Evaluate.{inner_product, hat_diagonal, add_squares, sum_squares, explained_share, local_r_squared, values_at};
 
 use estimate::Coefficients;
-use setup::Problem;
+use setup::Sample;
 
 // What a local solve gives beside the coefficients.
 #[derive(Clone, Copy)]
@@ -25,6 +28,7 @@ pub struct Squares {
 }
 
 // The fitted value of an observation: the coefficients times its design row, read where its predictors stand.
+#[tactic(auto, using(crate::proofs::Sums::fitted_is))]
 fn fitted(beta: &[f64; 8], own: &[f64]) -> f64
     requires { length own.now ≤ 7 }
     ensures { result ≡ inner_product beta.now (design_of own.now) (length own.now + 1) }
@@ -33,12 +37,13 @@ fn fitted(beta: &[f64; 8], own: &[f64]) -> f64
 }
 
 // The i-th diagonal element of the hat matrix, from the location's design row and own weight.
+#[tactic(auto, using(real::proofs::Fold::none, real::proofs::Fold::done), unfolding(crate::specs::Evaluate::quad_step, crate::specs::Evaluate::hat_diagonal))]
 fn hat_diagonal(inverse: &[[f64; 16]; 8], row: [f64; 8], own: f64, m: usize) -> f64
     requires { m ≤ 8 }
     ensures { result ≡ hat_diagonal inverse.now row own m }
 {
     let mut quad = 0.0;
-    // An index, since `inverse_times` takes it.
+    // An index: the row of the inverse goes by it, and an enumeration of the design row's cells would have it too.
     for p in 0..m {
         quad = quad + row[p] * estimate::inverse_times(inverse, p, row, m);
     }
@@ -58,17 +63,18 @@ fn add_squares(s: Squares, w: f64, y: f64, mean: f64, fitted: f64) -> Squares
 }
 
 // Both sums of squares over observations in order, leaving out weight 0.
-fn sum_squares(problem: &Problem<'_>, w: &[f64; 512], beta: [f64; 8], mean: f64) -> Squares
-    ensures { result ≡ sum_squares problem.now.setup problem.now.columns w.now beta mean }
+#[tactic(auto, using(real::proofs::Fold::none, crate::proofs::Sums::fitted_at, real::proofs::Fold::done), unfolding(crate::specs::Evaluate::squares_step, crate::specs::Evaluate::sum_squares))]
+fn sum_squares(sample: &Sample<'_>, w: &[f64; 512], beta: [f64; 8], mean: f64) -> Squares
+    ensures { result ≡ sum_squares sample.now.setup sample.now.columns w.now beta mean }
 {
     let mut s = Squares {
         total: 0.0,
         residual: 0.0,
     };
-    let u = problem.setup();
-    let x = problem.predictors();
-    let y = problem.responses();
-    // An index: chunks of no predictors cannot be zipped.
+    let u = sample.setup();
+    let x = sample.predictors();
+    let y = sample.responses();
+    // An index, for the predictors: chunks of none cannot be zipped.
     for j in 0..u.n {
         if w[j] == 0.0 {
             continue;
@@ -80,10 +86,11 @@ fn sum_squares(problem: &Problem<'_>, w: &[f64; 512], beta: [f64; 8], mean: f64)
 }
 
 // The share of the weighted variation that the fit explains.
+#[tactic(auto, unfolding(crate::specs::Evaluate::explained_share))]
 fn explained_share(s: Squares) -> f64
     ensures { result ≡ explained_share s }
 {
-    if s.total <= 2.220446049250313e-16 {
+    if s.total <= f64::EPSILON {
         1.0
     } else {
         real::clamp_unit(1.0 - s.residual / s.total)
@@ -91,34 +98,35 @@ fn explained_share(s: Squares) -> f64
 }
 
 // 000's `local_r_squared`, of a fit with these coefficients under weights with this sum.
-fn local_r_squared(problem: &Problem<'_>, w: &[f64; 512], beta: [f64; 8], sum: f64) -> f64
-    ensures { result ≡ local_r_squared problem.now.setup problem.now.columns w.now beta sum }
+#[tactic(auto, using(crate::proofs::Sums::weighted_is), unfolding(crate::specs::Evaluate::local_r_squared))]
+fn local_r_squared(sample: &Sample<'_>, w: &[f64; 512], beta: [f64; 8], sum: f64) -> f64
+    ensures { result ≡ local_r_squared sample.now.setup sample.now.columns w.now beta sum }
 {
-    let n = problem.setup().n;
-    let mean = estimate::inner_product(0.0, &w[..n], problem.responses()) / sum;
-    explained_share(sum_squares(problem, w, beta, mean))
+    let n = sample.setup().n;
+    let mean = estimate::inner_product(0.0, &w[..n], sample.responses()) / sum;
+    explained_share(sum_squares(sample, w, beta, mean))
 }
 
 // What the fit with these coefficients says of location i.
 pub fn values_at(
-    problem: &Problem<'_>,
+    sample: &Sample<'_>,
     w: &[f64; 512],
     i: usize,
     fit: &Coefficients,
     sum: f64,
 ) -> Values
-    requires { i < problem.now.setup.n }
-    ensures { result ≡ values_at problem.now.setup problem.now.columns w.now i fit.now.inverse fit.now.beta sum }
+    requires { i < sample.now.setup.n }
+    ensures { result ≡ values_at sample.now.setup sample.now.columns w.now i fit.now.inverse fit.now.beta sum }
 {
-    let u = problem.setup();
-    let x = problem.predictors();
-    let y = problem.responses();
+    let u = sample.setup();
+    let x = sample.predictors();
+    let y = sample.responses();
     let row = normal::design_row(x, u.n, u.p, i);
     let predicted = fitted(&fit.beta, normal::predictors_of(x, u.n, u.p, i));
     Values {
         predicted,
         residual: y[i] - predicted,
-        local_r2: local_r_squared(problem, w, fit.beta, sum),
+        local_r2: local_r_squared(sample, w, fit.beta, sum),
         leverage: hat_diagonal(&fit.inverse, row, w[i], u.p + 1),
     }
 }

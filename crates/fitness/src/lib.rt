@@ -50,7 +50,7 @@ fn trials_fit(stage: Stage, made: usize) -> bool
 }
 
 // Whether so many solves can have been made: at most n for each trial, and those of the sweep under way.
-#[tactic(auto, unfolding(crate::specs::Fitness::solves_fit))]
+#[tactic(auto, using(stepping::proofs::Sounds::most_solves, crate::proofs::Fits::ended_few), unfolding(crate::specs::Fitness::solves_fit))]
 fn solves_fit(j: Job) -> bool
     requires sized { Sized j.setup }
     requires in_range { (j.sweep.location < j.setup.n) × (j.trials.made ≤ 102) }
@@ -61,7 +61,7 @@ fn solves_fit(j: Job) -> bool
 }
 
 // Whether a record is fit.
-#[tactic(auto, unfolding(crate::specs::Fitness::is_fit))]
+#[tactic(auto, using(crate::proofs::Fits::sizes_means, crate::proofs::Fits::trials_fit_few), unfolding(crate::specs::Fitness::is_fit))]
 pub fn is_fit(j: Job) -> bool
     ensures { result ≡ is_fit j }
 {

@@ -1,4 +1,5 @@
-// The byte calls with C linkage, for a program in another language.
+// The byte calls with C linkage, for a program in another language. It lends slices one by one, has numbers for kernel and kind, and
+// is answered a number.
 #![tactic(auto)]
 
 ghost use Rattle.std.specs.Prelude.{◌≡◌};

@@ -1,4 +1,7 @@
 // 000's `invert_matrix`: Gauss-Jordan elimination with partial pivoting on the augmented matrix [A | I].
+//
+// A matrix has fixed room, since there is no heap: n rows and m columns of it count, and rows and columns go by their numbers.
+// The two are handed on beside it, as the definitions have them: a struct of the three would be made for the one call of `eliminate`.
 #![tactic(auto)]
 
 ghost use Rattle.std.specs.Prelude.{◌≡◌, ◌≤◌, ◌<◌};
@@ -12,6 +15,7 @@ pub struct Pivot {
 }
 
 // The pivot so far, or row k where its cell in column i is larger.
+#[tactic(auto, unfolding(crate::specs::Gauss::pivot_step, crate::specs::Gauss::cell))]
 fn better(a: &[[f64; 16]; 8], i: usize, k: usize, p: Pivot) -> Pivot
     requires { (i < 8) × (k < 8) }
     ensures { result ≡ pivot_step a.now i k p }
@@ -25,6 +29,7 @@ fn better(a: &[[f64; 16]; 8], i: usize, k: usize, p: Pivot) -> Pivot
 }
 
 // The row from i to n - 1 whose cell in column i has the largest magnitude, the first on a tie.
+#[tactic(auto, using(real::proofs::Fold::none, real::proofs::Fold::done), unfolding(crate::specs::Gauss::pivot_of, crate::specs::Gauss::cell))]
 fn find_pivot(a: &[[f64; 16]; 8], i: usize, n: usize) -> Pivot
     requires { (i < n) × (n ≤ 8) }
     ensures { result ≡ pivot_of a.now i n }
@@ -33,7 +38,7 @@ fn find_pivot(a: &[[f64; 16]; 8], i: usize, n: usize) -> Pivot
         row: i,
         val: real::abs(a[i][i]),
     };
-    // An index, since `better` takes it.
+    // An index: the pivot is a row's number, the first on a tie, where `max_by` would give the last.
     for k in i + 1..n {
         p = better(a, i, k, p);
     }
@@ -41,6 +46,7 @@ fn find_pivot(a: &[[f64; 16]; 8], i: usize, n: usize) -> Pivot
 }
 
 // The first m cells, each divided by v.
+#[tactic(auto, using(crate::proofs::Rows::untouched, crate::proofs::Rows::cell_set, real::proofs::Fold::done), unfolding(crate::specs::Gauss::div_step, crate::specs::Gauss::div_row))]
 fn div_row(row: &mut [f64; 16], v: f64, m: usize)
     requires { m ≤ 16 }
     ensures { row.new ≡ div_row v m row.old }
@@ -51,17 +57,19 @@ fn div_row(row: &mut [f64; 16], v: f64, m: usize)
 }
 
 // The first m cells, each less v times the cell of `by`.
+#[tactic(auto, using(real::proofs::Fold::none, real::proofs::Fold::done), unfolding(crate::specs::Gauss::less_step, crate::specs::Gauss::less_row))]
 fn less_row(row: &mut [f64; 16], v: f64, by: &[f64; 16], m: usize)
     requires { m ≤ 16 }
     ensures { row.new ≡ less_row v by.now m row.old }
 {
-    // An index: of cells that a zip changes a proof knows nothing afterwards.
+    // An index: `by` is read at it too, and of cells that a zip changes a proof knows nothing afterwards.
     for j in 0..m {
         row[j] = row[j] - v * by[j];
     }
 }
 
 // Row k less its cell i times row i, `by`; row i itself, and a row whose cell is zero, as they are.
+#[tactic(auto, unfolding(crate::specs::Gauss::clear_row))]
 fn clear_row(row: &mut [f64; 16], by: &[f64; 16], k: usize, i: usize, m: usize)
     requires { (i < 8) × (m ≤ 16) }
     ensures { row.new ≡ clear_row k i by.now m row.old }
@@ -77,18 +85,20 @@ fn clear_row(row: &mut [f64; 16], by: &[f64; 16], k: usize, i: usize, m: usize)
 }
 
 // Column i cleared in every row but row i, which stays: one copy of it serves every row.
+#[tactic(auto, using(real::proofs::Fold::none, crate::proofs::Rows::clearing, real::proofs::Fold::done), unfolding(crate::specs::Gauss::cleared))]
 fn clear(a: &mut [[f64; 16]; 8], i: usize, n: usize, m: usize)
     requires { (i < 8) × (n ≤ 8) × (m ≤ 16) }
     ensures { a.new ≡ cleared i n m a.old }
 {
     let by = a[i];
-    // An index, since `clear_row` takes it.
+    // An index: row i, told from the others by its number, stays.
     for k in 0..n {
         clear_row(&mut a[k], &by, k, i, m);
     }
 }
 
 // One step at column i with the pivot's row p: swapped into place, divided by the pivot, and the column cleared.
+#[tactic(auto, unfolding(crate::specs::Gauss::reduced))]
 fn reduce(a: &mut [[f64; 16]; 8], i: usize, n: usize, m: usize, p: usize)
     requires { (i < n) × (n ≤ 8) × (m ≤ 16) × (p < 8) }
     ensures { a.new ≡ reduced a.old i n m p }

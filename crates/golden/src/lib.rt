@@ -4,7 +4,9 @@
 ghost use Rattle.std.specs.Prelude.{◌≡◌};
 ghost use Rattle.golden.specs.Golden.{no_bracket, start_of, first_of, second_of, goes_left, aim_of, improved_of, left_of, right_of, narrow_of, tight_of};
 
-// The bracket a b, its inner points c d, its width h, the scores of c and d, and the best point tried with its score.
+// The bracket a b, its inner points c d, its width h, the scores of c and d, and the best point tried with its score. What is not
+// tried yet is zero, and no Option: whoever searches tries both points before anything reads a score. Points
+// and scores stand one by one, as 000's search names them.
 #[derive(Clone, Copy)]
 pub struct Bracket {
     pub a: f64,
@@ -24,7 +26,7 @@ const G: f64 = 0.6180339887498949;
 const G2: f64 = 0.3819660112501052;
 
 impl Bracket {
-    // Before a search.
+    // Of a job that does not search: zeros, which nothing reads.
     pub fn none() -> Self
         ensures { result ≡ no_bracket }
     {
@@ -131,7 +133,7 @@ impl Bracket {
         }
     }
 
-    // The part from a to d, with `point` as its new c.
+    // The part from a to d, with `point` as its new c. `keep_right` is its mirror image, with other fields throughout.
     fn keep_left(self, point: f64, score: f64) -> Self
         ensures { result ≡ left_of self point score }
     {

@@ -22,10 +22,8 @@ use Rattle.sweep.specs.declared.Swept.{Swept}
 use Rattle.sweep.specs.Sweep.{RoomFor, fit_all_locations, solves_of, ending_of}
 use Rattle.sweep.specs.Finish.{finish_of}
 use Rattle.sweep.proofs.Sweeps.{made_few}
-use Rattle.search.specs.declared.Optimum.{Optimum}
-use Rattle.search.specs.Search.{optimize_bandwidth}
 use Rattle.gwr.specs.declared.Fit.{Fit}
-use Rattle.gwr.specs.Fit.{fit_from, fitted, final_of, sought_of, planned, answered, gwr_fit}
+use Rattle.gwr.specs.Fit.{fit_from, fitted, final_of, planned, answered, gwr_fit}
 
 module _ (u : Setup) (d : Data) where
   abbrev fit : Finish → ℕ → Fit
@@ -42,11 +40,6 @@ module _ (u : Setup) (d : Data) where
   -- its sweep makes 512 solves at most
   pub solves_made : (b : GwrBandwidth) (out after : List Float) (s : Swept) → u.n ≤ 512 → ◌≡◌ {A = Swept × List Float} (s, after) (fit_all_locations true u d b out) → (k : ℕ) → k ≡ solves_of s → k ≤ 512
   solves_made b out after s few h k hk = let m = made_few true u d b s out after h in omega (arith, m.1, few, hk)
-
-  -- a job whose bandwidth was sought
-  pub sought_is : (lo hi : Float) (m : Optimum) (out : List Float) (r : Fit × List Float) → m ≡ optimize_bandwidth u d lo hi → r ≡ final_of u d m.bandwidth m.solves out → r ≡ sought_of u d lo hi out
-  unfolding sought_of
-  sought_is lo hi m out r hm hr = hr ∙ ap (λ (t : Optimum). final_of u d t.bandwidth t.solves out) hm
 
 -- a problem whose n was read from coordinates that are those of the data
 module _ (d : Data) (p : ℕ) (o : GwrOptions) (v : Data) (seen : v ≡ d) where

@@ -1,4 +1,5 @@
 // The uninterrupted fit, 000's `gwr_fit`: the input's checks, the search if there is one, and the final fit.
+// Limits of sizes, and room for rows, are clauses: docs/DECISIONS.md says why.
 #![tactic(auto)]
 
 ghost use Rattle.std.specs.Prelude.{◌≡◌, true, ◌*◌, ◌≤◌, length};
@@ -19,6 +20,7 @@ pub struct Fit {
 }
 
 // The final fit at a bandwidth, after `before` solves.
+#[tactic(auto, unfolding(crate::specs::Fit::final_of))]
 fn final_of(problem: &Problem<'_>, b: GwrBandwidth, before: u64, out: &mut [f64]) -> Fit
     requires usable { Usable b }
     requires room { RoomFor true problem.now.setup (length out.old) × (before ≤ 512 * 102) }
@@ -33,6 +35,7 @@ fn final_of(problem: &Problem<'_>, b: GwrBandwidth, before: u64, out: &mut [f64]
 }
 
 // The search from lo to hi, and the final fit at the bandwidth that it found.
+#[tactic(auto, unfolding(crate::specs::Fit::sought_of))]
 fn sought_of(problem: &Problem<'_>, lo: f64, hi: f64, out: &mut [f64]) -> Fit
     requires room { RoomFor true problem.now.setup (length out.old) }
     ensures { (result, out.new) ≡ sought_of problem.now.setup problem.now.columns lo hi out.old }
@@ -43,6 +46,7 @@ fn sought_of(problem: &Problem<'_>, lo: f64, hi: f64, out: &mut [f64]) -> Fit
 
 // 000's `gwr_fit`: the fit of n observations of p predictors each, n being half the number of coordinates. A refusal from the
 // input is an Err, and comes with nothing written.
+#[tactic(auto, unfolding(crate::specs::Fit::gwr_fit))]
 pub fn gwr_fit(
     columns: &Columns<'_>,
     p: usize,

@@ -1,4 +1,5 @@
 // The header that `gwrprint` reads, how much it reads behind it, and which part is cut short.
+// Limits of sizes, and room for rows, are clauses: docs/DECISIONS.md says why.
 #![tactic(auto)]
 
 ghost use Rattle.std.specs.Prelude.{◌≡◌, ◌+◌, ◌*◌, ◌≤◌, ◌<◌, length};
@@ -9,7 +10,7 @@ ghost use Rattle.header.specs.Headers.{asked};
 
 use refusal::Refusal;
 
-// The five numbers of a whole header that is not refused.
+// The five numbers of a whole header that is not refused. Kernel, kind and bandwidth stay numbers, since the fit call takes them so.
 #[derive(Clone, Copy)]
 pub struct Head {
     pub n: usize,
@@ -46,7 +47,7 @@ fn sized_header(s: &[u8]) -> Result<Head, Refusal>
 }
 
 // The header's numbers, and what is refused before reading on: 1 for a short header, then 18, an n of 0 or over 512, a p over 7.
-#[tactic(auto, using(crate::proofs::Heads::header_short))]
+#[tactic(auto, using(crate::proofs::Heads::header_short, crate::proofs::Heads::header_unknown, crate::proofs::Heads::header_known))]
 pub fn header_of(s: &[u8]) -> Result<Head, Refusal>
     ensures { result ≡ header_of s.now }
 {
@@ -66,6 +67,7 @@ fn parts_len(n: usize, p: usize) -> usize
 }
 
 // The first part cut short gives 2, 5 or 6.
+#[tactic(auto, unfolding(crate::specs::Cuts::cut_tests, checks::specs::Judge::judge))]
 pub fn check_cuts(size: usize, n: usize, p: usize) -> Result<(), Refusal>
     requires { (n ≤ 512) × (p ≤ 7) }
     ensures { result ≡ judge (cut_tests size n p) }
@@ -85,6 +87,7 @@ pub fn check_cuts(size: usize, n: usize, p: usize) -> Result<(), Refusal>
 }
 
 // How many bytes are to be read behind a header.
+#[tactic(auto, using(crate::proofs::Heads::head_sized, crate::proofs::Heads::asked_is))]
 pub fn asked_behind(head: &[u8]) -> usize
     ensures { (result ≡ asked (header_of head.now)) × (result ≤ 40960) }
 {

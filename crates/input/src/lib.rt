@@ -1,4 +1,5 @@
 // The input checks in document 01's order: lists of tests, each read from its top, so that a further refusal is one line.
+// Limits of sizes, and room for rows, are clauses: docs/DECISIONS.md says why.
 #![tactic(auto)]
 
 ghost use Rattle.std.specs.Prelude.{◌≡◌, ◌&&◌, ◌*◌, ◌≤◌, length};
@@ -14,7 +15,8 @@ use real::{all_finite, all_in_unit};
 use refusal::Refusal;
 use setup::{Columns, GwrBandwidth, GwrOptions, Setup};
 
-// Refusals 1 to 7: the lengths of the slices and the number of predictors.
+// Refusals 1 to 7: the lengths of the slices and the number of predictors, as the list of tests takes them.
+#[tactic(auto, unfolding(crate::specs::Checks::shape_tests, checks::specs::Judge::judge))]
 fn check_shape(coords: usize, x: usize, y: usize, trusts: usize, p: usize) -> Result<(), Refusal>
     ensures { result ≡ judge (shape_tests coords x y trusts p) }
 {
@@ -47,6 +49,7 @@ fn check_shape(coords: usize, x: usize, y: usize, trusts: usize, p: usize) -> Re
 }
 
 // Refusals 8 to 10, a response, coordinate or predictor that is not finite, and 26, a trust that is not in 0..1.
+#[tactic(auto, unfolding(crate::specs::Checks::value_tests, checks::specs::Judge::judge))]
 pub fn check_values(columns: &Columns<'_>) -> Result<(), Refusal>
     ensures { result ≡ judge (value_tests columns.now) }
 {
@@ -66,7 +69,8 @@ pub fn check_values(columns: &Columns<'_>) -> Result<(), Refusal>
 }
 
 // Whether an observation's numbers are finite and its trust lies from 0 to 1. A zero that is multiplied by a number is NaN where that is
-// not finite, and NaN is at most nothing.
+// not finite, and NaN is at most nothing. Easting and northing one by one: no place is made of what is only multiplied.
+#[tactic(auto, using(crate::proofs::Observations::good_is))]
 fn observation_good(v: f64, east: f64, north: f64, trust: f64) -> bool
     ensures { result ≡ (finite v && finite east && finite north && in_unit trust) }
 {
@@ -74,14 +78,15 @@ fn observation_good(v: f64, east: f64, north: f64, trust: f64) -> bool
     (z <= trust) & (trust <= 1.0)
 }
 
-// Whether all observations are good. By an index: coordinates stand two by two beside responses and trusts.
+// Whether all observations are good. Of slices, not of the columns, whose value may have no trusts.
 fn observations_good(coords: &[f64], y: &[f64], trust: &[f64]) -> bool
     requires { (length coords.now ≡ 2 * length y.now) × (length trust.now ≡ length y.now) }
     ensures { result ≡ (all_finite y.now && all_finite coords.now && all_in_unit trust.now) }
 {
+    let (places, _) = coords.as_chunks::<2>();
     let mut good = true;
-    for i in 0..y.len() {
-        let here = observation_good(y[i], coords[2 * i], coords[2 * i + 1], trust[i]);
+    for ((place, v), t) in places.iter().zip(y).zip(trust) {
+        let here = observation_good(*v, place[0], place[1], *t);
         good &= here;
     }
     good
@@ -97,6 +102,7 @@ pub fn values_good(columns: &Columns<'_>) -> bool
 }
 
 // Refusal 13: an output with no room for n rows.
+#[tactic(auto, unfolding(crate::specs::Checks::output_tests, checks::specs::Judge::judge))]
 fn check_output(n: usize, p: usize, out: usize) -> Result<(), Refusal>
     requires { (n ≤ 512) × (p ≤ 7) }
     ensures { result ≡ judge (output_tests n p out) }
@@ -116,6 +122,7 @@ pub fn check_room(u: Setup, out: usize) -> Result<(), Refusal>
 }
 
 // Refusals 1 to 7, 8 to 10, 26 and 13. `out` is the output's length.
+#[tactic(auto, using(checks::proofs::Judge::judge_append, crate::proofs::Accepted::shape_counts), unfolding(crate::specs::Checks::input_tests, checks::specs::Judge::ruled))]
 pub fn check_input(columns: &Columns<'_>, p: usize, out: usize) -> Result<(), Refusal>
     ensures { result ≡ judge (input_tests columns.now p out) }
 {
@@ -131,6 +138,7 @@ pub fn check_input(columns: &Columns<'_>, p: usize, out: usize) -> Result<(), Re
 }
 
 // Whether the slices have the lengths that the job's sizes say.
+#[tactic(auto, unfolding(crate::specs::Checks::lengths_fit))]
 pub fn lengths_fit(columns: &Columns<'_>, u: Setup) -> bool
     requires { Sized u }
     ensures { result ≡ lengths_fit u columns.now }
@@ -141,48 +149,44 @@ pub fn lengths_fit(columns: &Columns<'_>, u: Setup) -> bool
 }
 
 // Whether a distance is given that cannot be used.
-fn unusable_given(searched: bool, bandwidth: GwrBandwidth) -> bool
-    ensures { result ≡ unusable_given searched bandwidth }
+#[tactic(auto, unfolding(crate::specs::Checks::unusable_given))]
+fn unusable_given(options: GwrOptions) -> bool
+    ensures { result ≡ unusable_given options.optimize_bandwidth options.bandwidth }
 {
-    if searched {
+    if options.optimize_bandwidth {
         return false;
     }
-    match bandwidth {
+    match options.bandwidth {
         GwrBandwidth::Fixed(b) => !usable_distance(b),
         GwrBandwidth::AdaptiveKnn(_) => false,
     }
 }
 
 // Whether a distance is sought.
-pub fn seeks_distance(searched: bool, bandwidth: GwrBandwidth) -> bool
-    ensures { result ≡ seeks_distance searched bandwidth }
+#[tactic(auto, unfolding(crate::specs::Checks::seeks_distance))]
+pub fn seeks_distance(options: GwrOptions) -> bool
+    ensures { result ≡ seeks_distance options.optimize_bandwidth options.bandwidth }
 {
-    if searched {
-        return match bandwidth {
-            GwrBandwidth::Fixed(_) => true,
-            GwrBandwidth::AdaptiveKnn(_) => false,
-        };
-    }
-    false
+    options.optimize_bandwidth && matches!(options.bandwidth, GwrBandwidth::Fixed(_))
 }
 
 // Whether a distance is sought and there is none to seek.
-fn nothing_between(searched: bool, bandwidth: GwrBandwidth, hi: f64) -> bool
-    ensures { result ≡ nothing_between searched bandwidth hi }
+#[tactic(auto, unfolding(crate::specs::Checks::nothing_between))]
+fn nothing_between(options: GwrOptions, hi: f64) -> bool
+    ensures { result ≡ nothing_between options.optimize_bandwidth options.bandwidth hi }
 {
-    seeks_distance(searched, bandwidth) & !usable_distance(hi)
+    seeks_distance(options) && !usable_distance(hi)
 }
 
 // Refusals 11 and 12, where hi is the greatest pair distance.
+#[tactic(auto, unfolding(crate::specs::Checks::option_tests_at, checks::specs::Judge::judge))]
 pub fn check_options(options: GwrOptions, hi: f64) -> Result<(), Refusal>
     ensures { result ≡ judge (option_tests_at options hi) }
 {
-    let searched = options.optimize_bandwidth;
-    let bandwidth = options.bandwidth;
-    if unusable_given(searched, bandwidth) {
+    if unusable_given(options) {
         return Err(Refusal::UnusableDistance);
     }
-    if nothing_between(searched, bandwidth, hi) {
+    if nothing_between(options, hi) {
         return Err(Refusal::NoDistanceRange);
     }
     Ok(())

@@ -14,6 +14,7 @@ pub fn read_part<R: Read>(reader: &mut R, part: &mut [u8]) -> usize
     ensures bytes { Consumes (R.remaining reader.old) (R.remaining reader.new) (take result part.new) }
 {
     let mut done = 0;
+    // A read may give fewer bytes than asked for, and `read_exact` of the library answers no count where the input ends early.
     while done < part.len() {
         match reader.read(&mut part[done..]) {
             Ok(0) => break,

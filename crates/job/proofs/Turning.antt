@@ -1,5 +1,4 @@
 -- The tests of a turn one after the other, the arms of its code, and what a turn may count on.
-use Rattle.std.specs.Prelude.{Result}
 use mathlib.Core.Path.{◌≡◌, refl, sym, ap, subst⁻¹, ◌∙◌}
 use mathlib.Core.Bool.{Bool, true, false, not}
 use mathlib.Core.List.{List}
@@ -8,52 +7,29 @@ use native.Mathlib.Omega.{arith}
 use borrow.Author.Tests.{ltb-false, not-false}
 use lib.ListN.{length}
 use lib.Ieee.{Float}
-use Rattle.std.specs.Prelude.{Ok, Err}
+use Rattle.std.specs.Prelude.{Err}
 use Rattle.refusal.specs.declared.Refusal.{Refusal}
-use Rattle.refusal.specs.declared.Refusal.TheVariants.{UnfitRecord, AlreadyEnded, LengthsDiffer}
-use Rattle.setup.specs.declared.GwrBandwidth.{GwrBandwidth}
+use Rattle.refusal.specs.declared.Refusal.TheVariants.{UnfitRecord, AlreadyEnded}
 use Rattle.setup.specs.declared.Setup.{Setup}
 use Rattle.setup.specs.Bandwidth.{Usable}
 use Rattle.setup.specs.Data.{Data}
 use Rattle.setup.specs.Shape.{Shaped}
-use Rattle.checks.specs.Judge.{Check, judge, ruled, NoneOf, Decides}
-use Rattle.checks.proofs.Judge.{ruled_refused, ruled_pass, judge_append, first_here, judge_rest, none_head, none_append, decides}
-use Rattle.input.specs.Checks.{output_tests, value_tests, room_tests, lengths_fit}
+use Rattle.checks.specs.Judge.{Check, judge, NoneOf, Decides}
+use Rattle.checks.proofs.Judge.{first_here, judge_rest, none_head, none_append, decides}
+use Rattle.input.specs.Checks.{output_tests, value_tests}
 use Rattle.input.proofs.Meanings.{lengths_shaped}
-use Rattle.sweep.specs.declared.Finish.{Finish}
-use Rattle.sweep.specs.Finish.{finish_of}
-use Rattle.stepping.specs.declared.Stage.{Stage}
-use Rattle.stepping.specs.declared.Stage.TheVariants.{Ended}
 use Rattle.stepping.specs.declared.Job.{Job}
-use Rattle.stepping.specs.Step.{by_stage, is_ended, step_of, is_over}
+use Rattle.stepping.specs.Step.{is_ended, step_of, is_over}
 use Rattle.stepping.specs.Sound.{Sound}
 use Rattle.stepping.proofs.Sounds.{sound_usable}
 use Rattle.stepping.proofs.Keeping.{held_live, sound_held, Holds, holds_step}
 use Rattle.job.specs.declared.Answer.{Answer}
-use Rattle.job.specs.declared.Answer.TheVariants as answer
 use Rattle.job.specs.declared.Turned.{Turned}
 use Rattle.job.specs.Run.{run}
 use Rattle.fitness.specs.Fitness.{is_fit}
 use Rattle.job.specs.Turn.{lent_tests, turn_tests, answer_at, tell_of, ran_of, run_of, refused_turn, turn_of}
 use Rattle.fitness.proofs.Fits.{fit_means}
 use Rattle.job.proofs.Runs.{Running, running_none, running_more, running_over, running_spent}
-
--- ---- what is lent
-
-module _ (u : Setup) (d : Data) (out : ℕ) where
-  pub lent_differ : lengths_fit u d ≡ false → Err LengthsDiffer ≡ judge (lent_tests u d out)
-  unfolding lent_tests
-  lent_differ e = sym (first_here LengthsDiffer _ (ap not e))
-
-  lent_rest : lengths_fit u d ≡ true → judge (lent_tests u d out) ≡ ruled (judge (value_tests d)) Err (judge (room_tests u out))
-  unfolding lent_tests
-  lent_rest e = judge_rest LengthsDiffer _ (ap not e) ∙ judge_append (value_tests d) (room_tests u out)
-
-  pub lent_refused : (r : Refusal) → lengths_fit u d ≡ true → judge (value_tests d) ≡ Err r → Err r ≡ judge (lent_tests u d out)
-  lent_refused r e h = sym (lent_rest e ∙ ruled_refused Err (judge (room_tests u out)) h)
-
-  pub lent_room : (k : Check) → lengths_fit u d ≡ true → judge (value_tests d) ≡ Ok tt → k ≡ judge (room_tests u out) → k ≡ judge (lent_tests u d out)
-  lent_room k e h r = r ∙ sym (lent_rest e ∙ ruled_pass Err (judge (room_tests u out)) h)
 
 -- ---- a turn's tests
 
@@ -94,17 +70,7 @@ module _ (j : Job) (d : Data) (out : List Float) (a : ℕ) where
   unfolding turn_of
   turn_decides = decides (turn_tests j d (length out)) refl
 
-  pub turn_refused : (k : Check) (r : Refusal) → k ≡ judge (turn_tests j d (length out)) → k ≡ Err r → refused_turn j out r ≡ turn_of j d out a
-  turn_refused k r e f = sym (turn_decides.refused r (sym e ∙ f))
-
-  pub turn_ran : (k : Check) (t : Turned × List Float) → k ≡ judge (turn_tests j d (length out)) → k ≡ Ok tt → t ≡ run_of j d out a → t ≡ turn_of j d out a
-  turn_ran k t e f h = h ∙ sym (turn_decides.served (sym e ∙ f))
-
 -- ---- what a job says of itself
-
-pub answer_ended : (x : Stage) (c : Result Float Refusal) (b : GwrBandwidth) (k : ℕ) (f : Finish) → x ≡ Ended c → f ≡ finish_of c b k
-    → answer.Ended f ≡ by_stage answer.Working answer.Working (λ (z : Result Float Refusal). answer.Ended (finish_of z b k)) x
-answer_ended x c b k f e h = ap answer.Ended h ∙ sym (ap (by_stage answer.Working answer.Working (λ (z : Result Float Refusal). answer.Ended (finish_of z b k))) e)
 
 pub tell_is : (j : Job) (steps : ℕ) (r : Answer) → r ≡ answer_at j.stage j → ◌≡◌ {A = Turned} (record { answer = r; steps = steps; job = j }) (tell_of j steps)
 tell_is j steps r e = ap (λ (x : Answer). record { answer = x; steps = steps; job = j }) e

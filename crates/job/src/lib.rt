@@ -1,4 +1,5 @@
 // A fit in turns: each turn makes so many steps of it as it is allowed.
+// Limits of sizes, and room for rows, are clauses: docs/DECISIONS.md says why.
 #![tactic(auto)]
 
 mod turns; // the refusals of a turn, and its run of steps
@@ -8,7 +9,7 @@ use stepping::Job;
 use sweep::Finish;
 pub use turns::turn;
 
-// What a turn answers. Only `Refused` is a refused turn.
+// What a turn answers. Only `Refused` is a refused turn. Not a Result: there are three states, and the record comes back in each.
 #[derive(Clone, Copy)]
 pub enum Answer {
     Working,

@@ -14,6 +14,7 @@ use stepping::{Job, Stage};
 
 // Refusal 21, then 8, 9, 10, 26 and 13, of what a turn is lent. Which of 8 to 26 is met is asked only where one is: the data were good
 // when the job began.
+#[tactic(auto, using(checks::proofs::Judge::judge_append, input::proofs::Observations::values_pass, input::proofs::Meanings::lengths_fit_means), unfolding(crate::specs::Turn::lent_tests, checks::specs::Judge::judge, checks::specs::Judge::ruled))]
 fn check_lent(columns: &Columns<'_>, u: Setup, out: usize) -> Result<(), Refusal>
     requires { Sized u }
     ensures { result ≡ judge (lent_tests u columns.now out) }
@@ -28,6 +29,7 @@ fn check_lent(columns: &Columns<'_>, u: Setup, out: usize) -> Result<(), Refusal
 }
 
 // The refusals of a turn in order.
+#[tactic(auto, unfolding(crate::specs::Turn::turn_tests, checks::specs::Judge::judge))]
 fn check_turn(j: Job, columns: &Columns<'_>, out: usize) -> Result<(), Refusal>
     ensures { result ≡ judge (turn_tests j columns.now out) }
 {
@@ -82,6 +84,7 @@ fn run(j: Job, problem: &Problem<'_>, out: &mut [f64], allowance: u32) -> Turned
 }
 
 // A turn: refused, or so many steps as the allowance and the end allow.
+#[tactic(auto, using(crate::proofs::Turning::turn_passed), unfolding(crate::specs::Turn::turn_of, checks::specs::Judge::ruled))]
 pub fn turn(j: Job, columns: &Columns<'_>, out: &mut [f64], allowance: u32) -> Turned
     ensures { (result, out.new) ≡ turn_of j columns.now out.old allowance }
 {

@@ -2,6 +2,7 @@
 use mathlib.Core.Path.{◌≡◌, refl, sym, subst, subst⁻¹}
 use mathlib.Core.Bool.{Bool, true, false, not}
 use lib.Dec.{T}
+use Rattle.std.specs.Prelude.{Option, Some, IfSome}
 use lib.Ieee.{Float, nan, inf, fin, binary64, sub, mul, lt, le, of_bits, fits, is_nan}
 use lib.Ieee.Bits.{is_true, is_false}
 use lib.Ieee.Fits.{add-fits, mul-fits, and_l, and_r}
@@ -27,11 +28,6 @@ squares_fits ax ay bx by = let dx = sub binary64 ax bx in let dy = sub binary64 
 pub distance_is : (ax ay bx by : Float) → distance_of ax ay bx by ≡ root (squares_of ax ay bx by)
 unfolding distance_of
 distance_is ax ay bx by = refl
-
--- ---- no number is from NaN on
-nowhere : (k : GwrKernel) (b : Float) → Reach k b nan
-unfolding le
-nowhere k b = record { past = λ s f h. absurd h }
 
 -- ---- where the bandwidth is in use and the root of c reaches it
 number_right : (x y : Float) → T (le x y) → T (not (is_nan y))
@@ -86,21 +82,21 @@ in_use : (b : Float) → T (not (unusable b)) → T (finite b) × T (lt zero64 b
 unfolding of_bits
 in_use b u = let h = usable_of b u in (and_l (finite b) (lt zero64 b) h, and_r (finite b) (lt zero64 b) h)
 
-bisquare_reach_lem : (b : Float) → Reach Bisquare b (bisquare_reach b)
+bisquare_reach_lem : (b : Float) → IfSome (bisquare_reach b) (Reach Bisquare b)
 unfolding bisquare_reach weight_of bisquare_formula
 bisquare_reach_lem b =
-    by_truth (unusable b) (λ u. rw (is_true (unusable b) u) (nowhere Bisquare b))
+    by_truth (unusable b) (λ u. rw (is_true (unusable b) u) tt)
     (λ u.
     let i = in_use b u in
     let e = is_false (unusable b) u in
     by_truth (le b (root (mul binary64 b b))) (λ h. rw (e, is_true (le b (root (mul binary64 b b))) h) (record { past = λ s f k. rw (e, beyond b i.0 i.1 h s f k) }))
-    (λ h. rw (e, is_false (le b (root (mul binary64 b b))) h) (nowhere Bisquare b)))
+    (λ h. rw (e, is_false (le b (root (mul binary64 b b))) h) tt))
 
 -- ---- every kernel's
-reach_of_lem : (k : GwrKernel) (b : Float) → Reach k b (reach_of k b)
-reach_of_lem Gaussian b = nowhere Gaussian b
+reach_of_lem : (k : GwrKernel) (b : Float) → IfSome (reach_of k b) (Reach k b)
+reach_of_lem Gaussian b = tt
 reach_of_lem Bisquare b = bisquare_reach_lem b
-reach_of_lem Exponential b = nowhere Exponential b
+reach_of_lem Exponential b = tt
 
-pub reaches : {k : GwrKernel} {b r : Float} → r ≡ reach_of k b → Reach k b r
-reaches {k} {b} e = subst⁻¹ (Reach k b) e (reach_of_lem k b)
+pub reaches : {k : GwrKernel} {b r : Float} → Some r ≡ reach_of k b → Reach k b r
+reaches {k} {b} e = subst⁻¹ (λ (o : Option Float). IfSome o (Reach k b)) e (reach_of_lem k b)

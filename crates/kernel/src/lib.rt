@@ -26,6 +26,7 @@ pub enum GwrKernel {
 
 impl GwrKernel {
     // The weight of an observation at distance d under bandwidth b.
+    #[tactic(auto, unfolding(crate::specs::Weight::weight_of, crate::specs::Weight::unusable, crate::specs::Published::gaussian_formula, crate::specs::Published::bisquare_formula, crate::specs::Published::exponential_formula))]
     pub fn weight(self, d: f64, b: f64) -> f64
         ensures { result ≡ weight_of self d b }
     {
@@ -45,7 +46,7 @@ impl GwrKernel {
     }
 }
 
-// The kernel of a number: 0, 1 and 2 are known, and 18 refuses the others.
+// The kernel of a number, as C and bytes have it: 0, 1 and 2 are known, and 18 refuses the others.
 impl TryFrom<u64> for GwrKernel {
     type Error = Refusal;
 
@@ -69,6 +70,7 @@ fn degenerate(d: f64) -> f64
     if d == 0.0 { 1.0 } else { 0.0 }
 }
 
+#[tactic(auto, unfolding(crate::specs::Published::gaussian_formula))]
 fn gaussian(d: f64, b: f64) -> f64
     ensures { result ≡ gaussian_formula rounded expv d b }
 {
@@ -76,6 +78,7 @@ fn gaussian(d: f64, b: f64) -> f64
     elementary::exp((-0.5 * r) * r)
 }
 
+#[tactic(auto, unfolding(crate::specs::Published::bisquare_formula))]
 fn bisquare(d: f64, b: f64) -> f64
     ensures { result ≡ bisquare_formula rounded d b }
 {
@@ -89,6 +92,7 @@ fn bisquare(d: f64, b: f64) -> f64
 }
 
 // The public weight call: every distance but a negative one and NaN has a weight.
+#[tactic(auto, unfolding(crate::specs::Weight::weighed))]
 pub fn weigh_distance(k: GwrKernel, d: f64, b: f64) -> Option<f64>
     ensures { result ≡ weighed k d b }
 {

@@ -24,6 +24,7 @@ impl Place {
     }
 
     // The sum of the squares of the distance to another place.
+    #[tactic(auto, unfolding(crate::specs::Weight::squares_of))]
     pub fn squares(self, other: Place) -> f64
         ensures { result ≡ squares_of self.east self.north other.east other.north }
     {
@@ -33,6 +34,7 @@ impl Place {
     }
 
     // The distance to another place.
+    #[tactic(auto, using(crate::proofs::Reaches::distance_is))]
     pub fn distance(self, other: Place) -> f64
         ensures { result ≡ distance_of self.east self.north other.east other.north }
     {
@@ -48,6 +50,7 @@ impl Place {
 
     // The distance to another place, fast where y is `guess_distance` of it. Distances to many places are faster where all are guessed
     // first.
+    #[tactic(auto, using(crate::proofs::Reaches::distance_is))]
     pub fn settle_distance(self, other: Place, y: f64) -> f64
         ensures { result ≡ distance_of self.east self.north other.east other.north }
     {

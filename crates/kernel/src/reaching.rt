@@ -7,14 +7,13 @@ ghost use Rattle.kernel.specs.Reach.{bisquare_reach, reach_of, Reach};
 use crate::GwrKernel;
 
 impl GwrKernel {
-    // A sum of squares from which on nothing weighs under bandwidth b, so that no root is taken there; NaN where none is known.
-    pub fn reach(self, b: f64) -> f64
+    // A sum of squares from which on nothing weighs under bandwidth b, so that no root is taken there; None where none is known.
+    pub fn reach(self, b: f64) -> Option<f64>
         ensures { result ≡ reach_of self b }
     {
         match self {
-            GwrKernel::Gaussian => 0.0 / 0.0,
             GwrKernel::Bisquare => bisquare_reach(b),
-            GwrKernel::Exponential => 0.0 / 0.0,
+            GwrKernel::Gaussian | GwrKernel::Exponential => None,
         }
     }
 
@@ -30,18 +29,19 @@ impl GwrKernel {
     }
 }
 
-// The square of a bandwidth in use, if its root, judged here, reaches the bandwidth; else NaN.
-fn bisquare_reach(b: f64) -> f64
+// The square of a bandwidth in use, if the root of that square, taken here, reaches the bandwidth.
+#[tactic(auto, unfolding(crate::specs::Reach::bisquare_reach, crate::specs::Weight::unusable))]
+fn bisquare_reach(b: f64) -> Option<f64>
     ensures { result ≡ bisquare_reach b }
 {
     let c = b * b;
     let usable = real::is_finite(b);
     if usable {
         if b <= 0.0 {
-            return 0.0 / 0.0;
+            return None;
         }
-        if root::sqrt(c) >= b { c } else { 0.0 / 0.0 }
+        if root::sqrt(c) >= b { Some(c) } else { None }
     } else {
-        0.0 / 0.0
+        None
     }
 }

@@ -1,4 +1,5 @@
-// What `gwrprint` prints.
+// What `gwrprint` prints. Bytes of fixed room with how many of them count, since there is no heap.
+// Limits of sizes, and room for rows, are clauses: docs/DECISIONS.md says why.
 #![tactic(auto)]
 
 ghost use Rattle.std.specs.Prelude.{◌≡◌, ◌+◌, ◌*◌, ◌≤◌, ◌<◌, length};
@@ -12,7 +13,9 @@ ghost use Rattle.listing.specs.Printed.{printed};
 use header::Head;
 use refusal::Refusal;
 
-// The text of a fit that answered so, with n rows of `width` numbers.
+// The text of a fit that answered so, with n rows of `width` numbers. The text is a slice with at least the
+// room of the longest listing: an array's type would ask for exactly that length.
+#[tactic(auto, using(refusal::proofs::Range::numbered, crate::proofs::Texts::number_small), unfolding(crate::specs::Jobs::answer_text))]
 fn print_answer(
     answer: Result<(), Refusal>,
     out: &[u8],
@@ -26,12 +29,13 @@ fn print_answer(
     ensures { WrittenText text.old 0 (answer_text (answer_number answer, (out.now, summary.now)) n width) text.new result }
 {
     match answer {
-        Err(r) => text::put_refused(text, r.number()),
+        Err(r) => text::put_refused(text, u32::from(r)),
         Ok(()) => text::put_fit(text, summary, out, n, width),
     }
 }
 
 // The text of a job whose parts are whole, with `out` and `summary` lent to the fit.
+#[tactic(auto, using(calls::proofs::Bytes::part_long, crate::proofs::Texts::part_is), unfolding(crate::specs::Jobs::whole_text, crate::specs::Jobs::call_of_parts))]
 fn print_whole(h: Head, parts: &[u8], out: &mut [u8], summary: &mut [u8], text: &mut [u8]) -> usize
     requires whole { (h.n ≤ 512) × (h.p ≤ 7) × (responses_end h.n h.p ≤ length parts.now) }
     requires room { (45056 ≤ length out.old) × (24 ≤ length summary.old) × (102400 ≤ length text.old) }
@@ -57,12 +61,13 @@ fn print_whole(h: Head, parts: &[u8], out: &mut [u8], summary: &mut [u8], text: 
 }
 
 // The text of a job whose parts follow its header; answers its length.
+#[tactic(auto, using(crate::proofs::Texts::number_small, header::proofs::Heads::parts_whole), unfolding(crate::specs::Jobs::job_text, checks::specs::Judge::ruled))]
 pub fn print_job(h: Head, parts: &[u8], text: &mut [u8]) -> usize
     requires { (h.n ≤ 512) × (h.p ≤ 7) × (102400 ≤ length text.old) }
     ensures { WrittenText text.old 0 (job_text h parts.now) text.new result }
 {
     match header::check_cuts(parts.len(), h.n, h.p) {
-        Err(r) => text::put_refused(text, r.number()),
+        Err(r) => text::put_refused(text, u32::from(r)),
         Ok(()) => {
             let mut out = [0u8; 45056];
             let mut summary = [0u8; 24];
@@ -72,12 +77,13 @@ pub fn print_job(h: Head, parts: &[u8], text: &mut [u8]) -> usize
 }
 
 // All that is printed of an input, of any bytes and any length; answers the text's length.
+#[tactic(auto, using(crate::proofs::Texts::number_small, crate::proofs::Texts::refused_input, crate::proofs::Texts::whole_input, crate::proofs::Judged::parts_printed, header::proofs::Heads::head_sized, header::proofs::Heads::head_long))]
 pub fn print_input(input: &[u8], text: &mut [u8]) -> usize
     requires { 102400 ≤ length text.old }
     ensures { WrittenText text.old 0 (printed input.now) text.new result }
 {
     match header::header_of(input) {
-        Err(r) => text::put_refused(text, r.number()),
+        Err(r) => text::put_refused(text, u32::from(r)),
         Ok(h) => print_job(h, &input[40..], text),
     }
 }

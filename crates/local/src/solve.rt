@@ -8,14 +8,17 @@ use refusal::Refusal;
 use setup::{GwrBandwidth, Problem};
 
 // 000's `solve_local`, at bandwidth distance b.
+#[tactic(auto, using(checks::proofs::Tests::handed_on, estimate::proofs::Blind::fit_asks_no_trust, evaluate::proofs::Blind::values_ask_no_trust), unfolding(crate::specs::Solve::solved_by, crate::specs::Solve::solve_local))]
 fn solve_local(problem: &Problem<'_>, i: usize, b: f64) -> Result<Solved, Refusal>
     requires { i < problem.now.setup.n }
     ensures { result ≡ solve_local problem.now.setup problem.now.columns i b }
 {
+    // Room for the most observations, since there is no heap.
     let mut w = [0.0; 512];
     let sum = weights::weigh(problem, problem.place(i), b, &mut w);
-    let fit = estimate::fit_coefficients(problem, &w, sum)?;
-    let values = evaluate::values_at(problem, &w, i, &fit, sum);
+    let sample = problem.sample();
+    let fit = estimate::fit_coefficients(sample, &w, sum)?;
+    let values = evaluate::values_at(sample, &w, i, &fit, sum);
     Ok(Solved {
         values,
         beta: fit.beta,
@@ -23,6 +26,7 @@ fn solve_local(problem: &Problem<'_>, i: usize, b: f64) -> Result<Solved, Refusa
 }
 
 // Location i solved at its own bandwidth.
+#[tactic(auto, unfolding(crate::specs::Solve::solve_location))]
 pub fn solve_location(
     problem: &Problem<'_>,
     bandwidth: GwrBandwidth,

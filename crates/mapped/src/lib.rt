@@ -1,4 +1,5 @@
 // Square roots and exponentials of many numbers in place, so that a timing of one has no call's cost in it; for crates/measured.
+// Guesses have fixed room, since there is no heap.
 #![tactic(auto)]
 
 ghost use Rattle.std.specs.Prelude.{◌≡◌, map, ◌≤◌, length};
@@ -37,7 +38,7 @@ fn settle_each(values: &mut [f64], guesses: &[f64; 512])
     requires { length values.old ≤ 512 }
     ensures { values.new ≡ map root values.old }
 {
-    // An index: what a zip with the guesses writes is known of no number afterwards.
+    // By numbers: of what a zip with the guesses writes a proof knows nothing afterwards.
     for (i, v) in values.iter_mut().enumerate() {
         *v = root::sqrt_near(*v, guesses[i]);
     }

@@ -45,24 +45,21 @@ pub extern "C" fn zescolumba_exponentials(values: &mut [f64])
     mapped::exponentials(values);
 }
 
-// A number that the C interface has; unlike that of a byte call it refuses none.
-#[tactic(auto, unfolding(crate::specs::Turns::kernel_by))]
+// The kernel of the C interface's number, which, unlike a byte call's, is never refused.
+#[tactic(auto, unfolding(crate::specs::Turns::kernel_by, kernel::specs::Numbers::kernel_of))]
 fn kernel_by(number: u32) -> GwrKernel
     ensures { result ≡ kernel_by number }
 {
-    match number {
-        0 => GwrKernel::Gaussian,
-        1 => GwrKernel::Bisquare,
-        _ => GwrKernel::Exponential,
-    }
+    GwrKernel::try_from(u64::from(number)).unwrap_or(GwrKernel::Exponential)
 }
 
 // The job after so many turns of one allowance.
+#[tactic(auto, using(real::proofs::Fold::none, real::proofs::Fold::done), unfolding(crate::specs::Turns::play_of))]
 fn play(j: Job, columns: &Columns<'_>, out: &mut [f64], allowance: u32, turns: u32) -> Job
     ensures { (result, out.new) ≡ play_of columns.now allowance turns (j, out.old) }
 {
     let mut k = j;
-    // Counted: nothing is indexed.
+    // Nothing is indexed. A loop, since a proof knows nothing of what the closure of a fold wrote to the output.
     for i in 0..turns {
         k = job::turn(k, columns, &mut *out, allowance).job;
     }
@@ -70,7 +67,8 @@ fn play(j: Job, columns: &Columns<'_>, out: &mut [f64], allowance: u32, turns: u
 }
 
 // Begins an unsearched job at the bandwidth distance 400 and takes it through so many turns; answers the solves that it has made,
-// 0 where beginning refuses.
+// 0 where beginning refuses. The C interface lends slices one by one, and has a number for a kernel.
+#[tactic(auto, unfolding(crate::specs::Turns::turns_of))]
 #[unsafe(no_mangle)]
 pub extern "C" fn zescolumba_turns(
     coords: &[f64],
@@ -101,6 +99,7 @@ pub extern "C" fn zescolumba_turns(
     }
 }
 
+// The C interface has no `Option`: a number from n on is nobody's.
 #[tactic(auto, unfolding(crate::specs::Walks::own_by))]
 fn own_by(i: usize, n: usize) -> Option<usize>
     ensures { result ≡ own_by i n }
@@ -116,7 +115,7 @@ fn sum_at(walk: &Walker, at: usize) -> f64
 }
 
 // What is seen of a walk's end.
-#[tactic(auto, using(crate::proofs::Walking::end_seen))]
+#[tactic(auto, unfolding(crate::specs::Walks::end_of))]
 fn see(walk: &Walker, k: usize, at: usize, seen: &mut [f64; 5])
     ensures { seen.new ≡ end_of walk.now k at seen.old }
 {
@@ -127,7 +126,8 @@ fn see(walk: &Walker, k: usize, at: usize, seen: &mut [f64; 5])
 }
 
 // A walk from the place over the first m of n pantries, asked for k there, and then over the others, asked again.
-#[tactic(auto, using(crate::proofs::Walking::room, crate::proofs::Walking::walks_seen))]
+// n stands beside the coordinates, as in the definition.
+#[tactic(auto, using(neighbours::proofs::Walks::walk_few), unfolding(crate::specs::Walks::walks_of))]
 fn walks(
     coords: &[f64],
     n: usize,
@@ -149,8 +149,8 @@ fn walks(
 }
 
 // The same of the pantries that the coordinates have; an own number from their number on is nobody's. Answers 1, or 0 where they are
-// more than 512, or fewer than m.
-#[tactic(auto, using(crate::proofs::Walking::asked_served, crate::proofs::Walking::asked_beyond, crate::proofs::Walking::asked_many))]
+// more than 512, or fewer than m. The C interface gives easting and northing one by one.
+#[tactic(auto, unfolding(crate::specs::Walks::asked_of))]
 #[unsafe(no_mangle)]
 pub extern "C" fn zescolumba_walk(
     coords: &[f64],
@@ -175,6 +175,7 @@ pub extern "C" fn zescolumba_walk(
     0
 }
 
+// The criterion of the C interface's number, which no byte call has; none is refused.
 #[tactic(auto, unfolding(crate::specs::Fits::criterion_by))]
 fn criterion_by(number: u32) -> GwrCriterion
     ensures { result ≡ criterion_by number }
@@ -185,7 +186,7 @@ fn criterion_by(number: u32) -> GwrCriterion
     }
 }
 
-// The number, beside what a summary reports and how many rows were written.
+// The number, beside what a summary reports and how many rows were written. The C interface lends the two arrays one by one.
 #[tactic(auto, unfolding(crate::specs::Fits::told_of))]
 fn tell(number: u32, s: Summary, rows: usize, reals: &mut [f64; 2], counts: &mut [u64; 2]) -> u32
     ensures { (result, (reals.new, counts.new)) ≡ told_of number s rows reals.old counts.old }
@@ -197,8 +198,7 @@ fn tell(number: u32, s: Summary, rows: usize, reals: &mut [f64; 2], counts: &mut
     number
 }
 
-// What is seen of a fit.
-#[tactic(auto, using(crate::proofs::Judging::seen_rejected, crate::proofs::Judging::seen_made))]
+// What is seen of a fit, in the arrays that the C interface lends.
 fn seen_of(fit: Result<Fit, Refusal>, reals: &mut [f64; 2], counts: &mut [u64; 2]) -> u32
     ensures { (result, (reals.new, counts.new)) ≡ seen_of fit reals.old counts.old }
 {
@@ -214,8 +214,7 @@ fn seen_of(fit: Result<Fit, Refusal>, reals: &mut [f64; 2], counts: &mut [u64; 2
     }
 }
 
-// The fit by these options.
-#[tactic(auto, using(crate::proofs::Judging::fit_told))]
+// The fit by these options, seen so.
 fn fit_seen(
     columns: &Columns<'_>,
     p: usize,
@@ -231,7 +230,8 @@ fn fit_seen(
 }
 
 // The fit of numbers by the byte call's numbers of kernel, kind and bandwidth, and a criterion's: 0 unguarded, any other guarded. Answers
-// the refusal's number; bandwidth and AICc, solves and rows are lent.
+// the refusal's number; bandwidth and AICc, solves and rows are lent. The C interface lends slices one by one.
+#[tactic(auto, unfolding(crate::specs::Fits::judged_fit))]
 #[unsafe(no_mangle)]
 pub extern "C" fn zescolumba_fit_judged(
     coords: &[f64],

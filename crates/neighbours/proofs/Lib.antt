@@ -1,3 +1,4 @@
+pub mod Buffers
 pub mod Walks
 pub mod Inserts
 pub mod Tallies

@@ -5,8 +5,9 @@ ghost use Rattle.neighbours.specs.Walk.{unmet, is_own, pass, walk_on, found_by, 
 use kernel::Place;
 use std::marker::Model;
 
-// A walk: its sums of squares stand at the front, in order, and how many they are and the greatest of them beside.
-#[derive(Drop)]
+// A walk: its sums of squares stand at the front, in order, zeros behind them, and how many they are and the greatest of them beside.
+// Room for 512, the most pantries, since no heap is used.
+#[derive(Clone, Copy)]
 pub struct Walker {
     buffer: [f64; 512],
     met: usize,
@@ -14,17 +15,27 @@ pub struct Walker {
 }
 
 impl Model for Walker {
-    ghost use Rattle.std.specs.Prelude.{◌≡◌, ◌≤◌, length};
+    ghost use Rattle.std.specs.Prelude.{◌≡◌, ℕ, ◌-◌, ◌≤◌, List, ◌++◌, length, take, drop, replicate, Float};
+    ghost use Rattle.std.proofs.Common.{sym, ap, ◌∙◌, subst, length-take-le, take-append-drop};
+    ghost use Rattle.real.specs.Reals.{zero64};
     ghost use Rattle.neighbours.specs.Walk.{Walk, walk_in};
 
     ghost Value = { Walk };
 
     ghost view = { λ w. walk_in w.buffer w.met w.greatest };
 
-    ghost invariant = { λ w. (w.met ≤ 512) × (length w.buffer ≡ 512) };
+    ghost invariant = { λ w. (w.met ≤ 512) × (length w.buffer ≡ 512) × (drop w.met w.buffer ≡ replicate (512 - w.met) zero64) };
+
+    ghost inverse = { λ w. record { buffer = w.sums ++ replicate (512 - length w.sums) zero64; met = length w.sums; greatest = w.greatest } };
+
+    ghost inverse_ok = { λ w h i. let m = length-take-le w.met w.buffer (subst (λ (n : ℕ). w.met ≤ n) (sym h.1) h.0) in record {
+      buffer = (ap (λ (n : ℕ). take w.met w.buffer ++ replicate (512 - n) zero64) m ∙ ap (λ (l : List Float). take w.met w.buffer ++ l) (sym h.2) ∙ take-append-drop w.met w.buffer) i;
+      met = m i;
+      greatest = w.greatest;
+    } };
 }
 
-// Whether pantry j is the walk's own.
+// Whether pantry j is the walk's own: a function, since the definition of `pass` tests it by this name.
 #[tactic(auto, using(crate::proofs::Walks::own_is))]
 fn is_own(own: Option<usize>, j: usize) -> bool
     ensures { result ≡ is_own own j }
@@ -41,6 +52,21 @@ impl Walker {
             buffer: [0.0; 512],
             met: 0,
             greatest: 0.0,
+        }
+    }
+
+    // A walk taken up from sums of squares and the greatest of them: those of another walk, or any.
+    pub fn resume(sums: &[f64], greatest: f64) -> Self
+        requires { length sums.now ≤ 512 }
+        ensures { result ≡ record { sums = sums.now; greatest = greatest } }
+    {
+        let met = sums.len();
+        let mut buffer = [0.0; 512];
+        buffer[..met].copy_from_slice(sums);
+        Walker {
+            buffer,
+            met,
+            greatest,
         }
     }
 
@@ -94,7 +120,7 @@ impl Walker {
     }
 
     // What the walk gives for a count k when stopped: the root of the k-th smallest sum, of the greatest where fewer were met; where
-    // that is zero, or nobody was met, the greater of the greatest distance and EPS.
+    // that is zero, or nobody was met, the greater of the greatest distance and EPSILON.
     pub fn found_by(&self, k: usize) -> f64
         ensures { result ≡ found_by k self.now }
     {

@@ -1,4 +1,4 @@
-// Design rows.
+// Design rows, of any predictors that are lent: n and p come beside them, n for the clause alone.
 ghost use Rattle.std.specs.Prelude.{◌≡◌, ◌*◌, ◌≤◌, ◌<◌, length};
 ghost use Rattle.normal.specs.Design.{predictors_of, design_row};
 

@@ -1,4 +1,5 @@
 // What the options ask for, and what is said of an input.
+// Limits of sizes, and room for rows, are clauses: docs/DECISIONS.md says why.
 ghost use Rattle.std.specs.Prelude.{◌≡◌, ◌*◌, ◌≤◌, length};
 ghost use Rattle.setup.specs.Shape.{Sized};
 ghost use Rattle.bounds.specs.Bounds.{greatest_distance};
@@ -11,6 +12,7 @@ use refusal::Refusal;
 use setup::{Columns, GwrBandwidth, GwrOptions, Setup};
 
 // The bandwidth given, a count resolved.
+#[tactic(auto, unfolding(crate::specs::Plan::resolve_initial_bandwidth))]
 fn resolve_initial_bandwidth(bandwidth: GwrBandwidth, n: usize, p: usize) -> GwrBandwidth
     requires { (1 ≤ n) × (n ≤ 512) × (p ≤ 7) }
     ensures { result ≡ resolve_initial_bandwidth bandwidth n p }
@@ -22,6 +24,7 @@ fn resolve_initial_bandwidth(bandwidth: GwrBandwidth, n: usize, p: usize) -> Gwr
 }
 
 // A search from lo to hi, or the distance lo where there is nothing between.
+#[tactic(auto, unfolding(crate::specs::Plan::distance_plan))]
 fn distance_plan(lo: f64, hi: f64) -> Plan
     ensures { result ≡ distance_plan lo hi }
 {
@@ -32,6 +35,7 @@ fn distance_plan(lo: f64, hi: f64) -> Plan
 }
 
 // The counts between which a search goes, or the least where there is nothing between.
+#[tactic(auto, unfolding(crate::specs::Plan::count_plan))]
 fn count_plan(n: usize, p: usize) -> Plan
     requires { (1 ≤ n) × (n ≤ 512) × (p ≤ 7) }
     ensures { result ≡ count_plan n p }
@@ -45,6 +49,7 @@ fn count_plan(n: usize, p: usize) -> Plan
 }
 
 // What a search does: of the bandwidth given only the kind counts.
+#[tactic(auto, unfolding(crate::specs::Plan::search_plan))]
 fn search_plan(kind: GwrBandwidth, hi: f64, n: usize, p: usize) -> Plan
     requires { (1 ≤ n) × (n ≤ 512) × (p ≤ 7) }
     ensures { result ≡ search_plan kind hi n p }
@@ -56,6 +61,7 @@ fn search_plan(kind: GwrBandwidth, hi: f64, n: usize, p: usize) -> Plan
 }
 
 // What the options ask for, where hi is the greatest pair distance.
+#[tactic(auto, unfolding(crate::specs::Plan::plan_at))]
 fn plan_at(u: Setup, hi: f64) -> Plan
     requires { Sized u }
     ensures { result ≡ plan_at u hi }
@@ -69,6 +75,7 @@ fn plan_at(u: Setup, hi: f64) -> Plan
 }
 
 // Refusals 11 and 12, or what the job does.
+#[tactic(auto, unfolding(crate::specs::Plan::plan_options_at, checks::specs::Judge::ruled))]
 fn plan_options_at(u: Setup, hi: f64) -> Result<Plan, Refusal>
     requires { Sized u }
     ensures { result ≡ plan_options_at u hi }
@@ -78,20 +85,20 @@ fn plan_options_at(u: Setup, hi: f64) -> Result<Plan, Refusal>
 }
 
 // The same of the coordinates. The greatest pair distance is asked for only where a distance is sought.
+#[tactic(auto, using(crate::proofs::Planned::options_blind))]
 pub fn plan_options(coords: &[f64], u: Setup) -> Result<Plan, Refusal>
     requires lengths { length coords.now ≡ 2 * u.n }
     requires sized { Sized u }
     ensures { result ≡ plan_options_at u (greatest_distance coords.now u.n) }
 {
-    let options = u.options;
-    let bandwidth = options.bandwidth;
-    if seeks_distance(options.optimize_bandwidth, bandwidth) {
-        return plan_options_at(u, greatest_distance(coords, u.n));
+    if seeks_distance(u.options) {
+        return plan_options_at(u, greatest_distance(coords));
     }
     plan_options_at(u, 0.0)
 }
 
 // The input checks in order: what an accepted job does, or the first refusal. `out` is the output's length.
+#[tactic(auto, using(crate::proofs::Planned::accept_refused, crate::proofs::Planned::accept_passed))]
 pub fn accept(
     columns: &Columns<'_>,
     p: usize,

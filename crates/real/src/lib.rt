@@ -1,4 +1,4 @@
-// Helpers on f64 that the Rust takes from its library, each with the meaning it has there.
+// Helpers on f64, most of which 000 takes from Rust's library. What each means is its contract.
 #![tactic(auto)]
 
 ghost use Rattle.std.specs.Prelude.{◌≡◌, ◌*◌, ◌^◌, ◌<◌, ◌≤◌, false, ◌&&◌, T, length, take, from_bits};
@@ -16,7 +16,7 @@ pub fn from_count(n: usize) -> f64
     f64::from(n as u32)
 }
 
-// Rust's `x.is_finite()`, in a word of this repository's.
+// Rust's `x.is_finite()`, promised in the word that the definitions use.
 #[tactic(auto, using(crate::proofs::Std::finite_same))]
 pub fn is_finite(x: f64) -> bool
     ensures { result ≡ finite x }
@@ -32,7 +32,7 @@ fn four_finite(a: f64, b: f64, c: f64, d: f64) -> bool
 }
 
 // Whether the first 4 h numbers of s are finite, four at a time that stand h apart: one comparison for four, and neighbours beside
-// each other for the processor to take two at once. An index: a zip of the four quarters is no plainer.
+// each other for the processor to take two at once. An index: a zip of the four quarters would be three deep.
 fn quarters_finite(s: &[f64], h: usize) -> bool
     requires { 4 * h ≤ length s.now }
     ensures { result ≡ all_finite (take (4 * h) s.now) }
@@ -89,6 +89,7 @@ pub fn all_in_unit(s: &[f64]) -> bool
 
 // The size of x: Rust's `f64::abs`. Where x <= 0.0 the difference is exact, and it is +0 for a zero of either sign. The library's
 // branches on the sign, and a walk down a column of `gauss` by it takes three times as long.
+#[tactic(auto, using(crate::proofs::Values::size_below, crate::proofs::Values::size_above))]
 pub fn abs(x: f64) -> f64
     ensures { result ≡ magnitude x }
 {
@@ -121,6 +122,7 @@ pub fn clamp_unit(x: f64) -> f64
 }
 
 // The whole number nearest to x, halves up, for x above 0 and below 2^32: there x less its whole part is exact.
+#[tactic(auto, using(crate::proofs::Values::above_minus_one, crate::proofs::Values::below_top, crate::proofs::Rounding::by_rest, crate::proofs::Values::cut_small, crate::proofs::Rounding::by_rest_lem))]
 fn rounded(x: f64) -> u64
     requires positive { T (lt zero64 x) }
     requires below_2_to_32 { T (lt x (from_bits binary64 0x41F0_0000_0000_0000)) }

@@ -69,6 +69,7 @@ impl Refusal {
     }
 }
 
+// The same number, as a conversion: `u32::from`.
 impl From<Refusal> for u32 {
     ghost from_gives = { λ refusal number. number ≡ refusal_number refusal };
 

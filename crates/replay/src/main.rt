@@ -12,7 +12,7 @@ ghost use Rattle.std.specs.Prelude.{◌≡◌, ◌+◌, ◌≤◌, length};
 use std::io;
 use std::io::Stdin;
 
-// The group of the weight call.
+// The group of the weight call: a number, as the stored records have it.
 const WEIGHTS: u64 = 0;
 
 #[derive(Drop)]
@@ -73,7 +73,7 @@ struct Record<'a> {
 }
 
 impl Record<'_> {
-    // The number that the call answers.
+    // The number that the call answers. Output and summary are lent beside each other, as the byte call takes them.
     fn answered(&self, out: &mut [u8], summary: &mut [u8]) -> u32 {
         let head = self.head;
         let p = wire::load(head, 40);
@@ -97,7 +97,7 @@ impl Record<'_> {
         request::answer_number(answer)
     }
 
-    // Whether the call answers what the record says, and leaves the bytes that it says.
+    // Whether the call answers what the record says, and leaves the bytes that it says: a flag, since it is only counted.
     fn agrees(&self, out: &mut [u8], summary: &mut [u8]) -> bool {
         let number = self.answered(&mut *out, &mut *summary);
         let head = self.head;

@@ -3,7 +3,7 @@ use Rattle.std.specs.Prelude.{ℕ, Ok, Err}
 use Rattle.refusal.specs.Numbers.{refusal_number}
 use Rattle.checks.specs.Judge.{Check}
 
--- 0 where nothing is refused, else the refusal's number; no two refusals have one number, so that it tells the answer
+-- 0 where nothing is refused, else the refusal's number; it tells the answer, by proofs/Answers `answer_tells`
 abbrev pub answer_number : Check → ℕ
 answer_number (Ok served) = 0
 answer_number (Err r) = refusal_number r

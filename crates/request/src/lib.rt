@@ -1,4 +1,5 @@
 // What a call asks for, options from their numbers and byte lengths, and the number that it answers.
+// Limits of sizes, and room for rows, are clauses: docs/DECISIONS.md says why.
 #![tactic(auto)]
 
 ghost use Rattle.std.specs.Prelude.{◌≡◌, ◌*◌, ◌/◌, ◌≤◌, ◌<◌};
@@ -11,7 +12,7 @@ use kernel::GwrKernel;
 use refusal::Refusal;
 use setup::{GwrBandwidth, GwrOptions};
 
-// Kind 0 is a distance and 1 a count; 2 and 3 are the same, searched. A number, as it crosses the C interface.
+// Kind 0 is a distance and 1 a count; 2 and 3 are the same, searched. A number, since the C interface passes one.
 #[tactic(auto, unfolding(crate::specs::Options::kind_of))]
 fn kind_of(kernel: GwrKernel, kind: u64, bandwidth: u64) -> Result<GwrOptions, Refusal>
     ensures { result ≡ kind_of kernel kind bandwidth }
@@ -28,6 +29,7 @@ fn kind_of(kernel: GwrKernel, kind: u64, bandwidth: u64) -> Result<GwrOptions, R
 }
 
 // The options of the numbers of kernel and kind, and of the bandwidth's bits or count; 18 refuses an unknown number.
+#[tactic(auto, using(crate::proofs::Options::kernel_named, crate::proofs::Options::kernel_unnamed))]
 pub fn options_of(kernel: u64, kind: u64, bandwidth: u64) -> Result<GwrOptions, Refusal>
     ensures { result ≡ options_of kernel kind bandwidth }
 {
@@ -36,6 +38,7 @@ pub fn options_of(kernel: u64, kind: u64, bandwidth: u64) -> Result<GwrOptions, 
 }
 
 // Refusals 5 and 6 of byte lengths.
+#[tactic(auto, unfolding(crate::specs::Lengths::part_tests, checks::specs::Judge::judge))]
 fn check_part_bytes(x: usize, y: usize, n: usize, p: usize) -> Result<(), Refusal>
     requires { (n ≤ 512) × (p ≤ 7) }
     ensures { result ≡ judge (part_tests x y n p) }
@@ -49,7 +52,9 @@ fn check_part_bytes(x: usize, y: usize, n: usize, p: usize) -> Result<(), Refusa
     Ok(())
 }
 
-// Refusals 1 to 6 of byte lengths; p is a number of predictors.
+// Refusals 1 to 6 of byte lengths; p is a number of predictors. Not one with `input::check_shape` by a number's size: that one asks
+// for trusts and 7 too, and document 01's two lists would be laws of a third.
+#[tactic(auto, unfolding(crate::specs::Lengths::byte_tests, crate::specs::Lengths::part_tests, checks::specs::Judge::judge))]
 pub fn check_bytes(coords: usize, x: usize, y: usize, p: u64) -> Result<(), Refusal>
     ensures { result ≡ judge (byte_tests coords x y p) }
 {
@@ -69,12 +74,14 @@ pub fn check_bytes(coords: usize, x: usize, y: usize, p: u64) -> Result<(), Refu
     check_part_bytes(x, y, n, p as usize)
 }
 
-// The number of an answer, for the C interface: 0 where nothing is refused.
+// The number of an answer, for the C interface: 0 where nothing is refused. No two refusals share one (refusal/proofs/Distinct
+// `number_tells`), so it tells the answer (proofs/Answers `answer_tells`). `Finish::number` is the same
+// of an Option, since a finish has its summary in both cases.
 pub fn answer_number(answer: Result<(), Refusal>) -> u32
     ensures { result ≡ answer_number answer }
 {
     match answer {
         Ok(()) => 0,
-        Err(r) => r.number(),
+        Err(r) => u32::from(r),
     }
 }

@@ -2,6 +2,7 @@
 //
 // A positive finite x is n * 2^-1074. `split` takes n apart into a significand a of 53 or 54 digits and half the length of n;
 // `quick` finds the number of 53 digits nearest to the root of a * 2^52; `positive` puts the result's pattern together.
+// Not the library's `sqrt`: that the root is the nearest is proved of these steps, and no processor's root is trusted for it.
 #![tactic(auto)]
 
 ghost use Rattle.std.specs.Prelude.{◌≡◌, true, ◌+◌, ◌*◌, ◌^◌, ◌≤◌, ◌<◌};
@@ -67,6 +68,7 @@ fn positive(x: f64, y: f64) -> f64
 
 // The square root, whatever y is, and fast where y is `guess` of x. Roots of many numbers are faster where all are guessed first:
 // a guess waits for divisions, and settling one for nothing else.
+#[tactic(auto, unfolding(crate::specs::Root::root))]
 pub fn sqrt_near(x: f64, y: f64) -> f64
     ensures { result ≡ root x }
 {

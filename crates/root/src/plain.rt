@@ -1,4 +1,5 @@
-// The square root digit by digit, in integers: right for every number, and slow.
+// The square root digit by digit, in integers: right for every number, and slow. What is known of a is a clause of each function: a
+// struct would be taken apart in each.
 ghost use Rattle.std.specs.Prelude.{◌≡◌, ◌*◌, ◌^◌, ◌-◌, ◌≤◌, ◌<◌};
 ghost use Rattle.root.specs.Root.{nearest_root};
 ghost use Rattle.root.specs.Parts.{Rooted};

@@ -1,42 +1,29 @@
 -- A trial, and how many solves trials and searches make: laws of the definitions.
-use Rattle.std.specs.Prelude.{Result}
-use Rattle.refusal.specs.declared.Refusal.{Refusal}
-use mathlib.Core.Path.{◌≡◌, refl, ap, subst⁻¹, ◌∙◌}
+use mathlib.Core.Path.{◌≡◌, refl, subst⁻¹}
 use mathlib.Core.Bool.{Bool, true, false}
-use mathlib.Core.List.{List, []}
+use mathlib.Core.List.{[]}
 use Prim.Native.Nat.{ℕ, zero, suc, ◌+◌, ◌*◌, ◌≤◌}
 use native.Mathlib.Nat.{sub-zero}
 use native.Mathlib.Omega.{arith}
 use lib.Ieee.{Float}
 use Rattle.real.specs.Fold.{turns, range}
-use Rattle.setup.specs.declared.GwrBandwidth.{GwrBandwidth}
 use Rattle.setup.specs.declared.Setup.{Setup}
 use Rattle.setup.specs.Bandwidth.{Usable}
 use Rattle.setup.specs.Data.{Data}
 use Rattle.setup.specs.Shape.{Sized}
-use Rattle.criterion.specs.Aicc.{score_of}
 use Rattle.golden.specs.declared.Bracket.{Bracket}
 use Rattle.golden.specs.Golden.{start_of, aim_of}
 use Rattle.bounds.specs.Bounds.{bandwidth_at}
 use Rattle.bounds.proofs.Usable.{bandwidth_usable}
-use Rattle.sweep.specs.declared.Swept.{Swept}
-use Rattle.sweep.specs.Sweep.{fit_all_locations, solves_of, ending_of}
 use Rattle.sweep.proofs.Sweeps.{sweep_solves}
 use Rattle.search.specs.declared.Trial.{Trial}
 use Rattle.search.specs.declared.Search.{Search}
 use Rattle.search.specs.declared.Optimum.{Optimum}
-use Rattle.search.specs.Trial.{trial_from, evaluate_aicc, trial_of}
+use Rattle.search.specs.Trial.{trial_of}
 use Rattle.search.specs.Search.{round_of, opened_of, golden_of, optimize_bandwidth}
 
 abbrev trial : Float → ℕ → Trial
 trial v n = record { score = v; solves = n }
-
-pub trial_is : (u : Setup) (d : Data) (b : GwrBandwidth) (s : Swept) (after : List Float) (e : Result Float Refusal) (v : Float) (k : ℕ) → ◌≡◌ {A = Swept × List Float} (s, after) (fit_all_locations false u d b [])
-    → e ≡ ending_of u s → v ≡ score_of e → k ≡ solves_of s → trial v k ≡ evaluate_aicc u d b
-trial_is u d b s after e v k hs he hv hk =
-    ap (λ (x : Float). trial x k) (hv ∙ ap score_of he)
-    ∙ ap (trial (score_of (ending_of u s))) hk
-    ∙ ap (λ (q : Swept × List Float). trial_from u q.0) hs
 
 module _ (u : Setup) (d : Data) (few : u.n ≤ 512) where
   -- a trial makes 512 solves at most

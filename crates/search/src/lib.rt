@@ -27,7 +27,7 @@ pub struct Tried {
 #[derive(Clone, Copy)]
 pub struct Search {
     pub bracket: Bracket,
-    // A flag: 000's search goes on while it is not set, and so does its definition.
+    // A flag, not an Option: `golden_of` goes on while it is not set, as 000's search does, and the bracket is there in both cases.
     pub over: bool,
     pub solves: u64,
 }

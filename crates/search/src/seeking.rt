@@ -1,5 +1,5 @@
 // 000's `golden_section_min`, whose scores are trials, and the bandwidth that it comes to.
-ghost use Rattle.std.specs.Prelude.{◌≡◌, ◌*◌, ◌≤◌, false};
+ghost use Rattle.std.specs.Prelude.{ℕ, ◌≡◌, ◌*◌, ◌≤◌, false};
 ghost use Rattle.setup.specs.Bandwidth.{Usable};
 ghost use Rattle.search.specs.Memo.{Remembered};
 ghost use Rattle.search.specs.Search.{round_of, opened_of, golden_of, optimize_bandwidth};
@@ -9,7 +9,8 @@ use super::{Optimum, Search, Tried};
 use golden::Bracket;
 use setup::Problem;
 
-// The bracket's two inner points tried.
+// The bracket's two inner points tried. That observations are few is the problem's, and only a call of `setup` would tell a proof so.
+#[tactic(auto, using(crate::proofs::Solves::trial_made), unfolding(crate::specs::Search::opened_of))]
 fn opened_of(problem: &Problem<'_>, g: Bracket, tried: &mut [Option<Tried>; 102]) -> Search
     requires few { problem.now.setup.n ≤ 512 }
     requires remembered { Remembered problem.now.setup problem.now.columns tried.old }
@@ -27,13 +28,14 @@ fn opened_of(problem: &Problem<'_>, g: Bracket, tried: &mut [Option<Tried>; 102]
     }
 }
 
-// One round of a search that is not over.
-fn round_of(s: Search, problem: &Problem<'_>, r: usize, tried: &mut [Option<Tried>; 102]) -> Search
+// One round of a search that is not over, whichever its number.
+#[tactic(auto, using(crate::proofs::Solves::trial_made), unfolding(crate::specs::Search::round_of))]
+fn round_of(s: Search, problem: &Problem<'_>, tried: &mut [Option<Tried>; 102]) -> Search
     requires few { problem.now.setup.n ≤ 512 }
     requires remembered { Remembered problem.now.setup problem.now.columns tried.old }
     requires going { s.over ≡ false }
     requires few_solves { s.solves ≤ 512 * 102 }
-    ensures value { result ≡ round_of problem.now.setup problem.now.columns r s }
+    ensures value { (r : ℕ) → result ≡ round_of problem.now.setup problem.now.columns r s }
     ensures still_remembered { Remembered problem.now.setup problem.now.columns tried.new }
 {
     let g = s.bracket;
@@ -54,9 +56,9 @@ fn golden_section_min(problem: &Problem<'_>, lo: f64, hi: f64) -> Search
     let mut tried = [None; 102];
     let g = Bracket::start(lo, hi);
     let mut s = opened_of(problem, g, &mut tried);
-    // Counted: r is the number of the round, of which the contract of `round_of` speaks.
-    for r in 0..100usize {
-        s = round_of(s, problem, r, &mut tried);
+    // Counted, not indexed: a hundred rounds at most, and the count bounds the solves.
+    for round in 0..100usize {
+        s = round_of(s, problem, &mut tried);
         if s.over {
             return s;
         }
@@ -64,7 +66,8 @@ fn golden_section_min(problem: &Problem<'_>, lo: f64, hi: f64) -> Search
     s
 }
 
-// 000's `optimize_bandwidth` from lo to hi: the bandwidth at the best point.
+// 000's `optimize_bandwidth` from lo to hi, two numbers as there: the bandwidth at the best point.
+#[tactic(auto, using(crate::proofs::Solves::optimum_made), unfolding(crate::specs::Search::optimize_bandwidth))]
 pub fn optimize_bandwidth(problem: &Problem<'_>, lo: f64, hi: f64) -> Optimum
     ensures value { result ≡ optimize_bandwidth problem.now.setup problem.now.columns lo hi }
     ensures usable { Usable result.bandwidth }

@@ -7,6 +7,7 @@ use super::Trial;
 use setup::{GwrBandwidth, Problem};
 
 // 000's `evaluate_aicc`: the trial at a bandwidth.
+#[tactic(auto, unfolding(crate::specs::Trial::evaluate_aicc))]
 pub fn evaluate_aicc(problem: &Problem<'_>, b: GwrBandwidth) -> Trial
     requires usable { Usable b }
     ensures { result ≡ evaluate_aicc problem.now.setup problem.now.columns b }

@@ -1,24 +1,19 @@
 // Which of some numbers is the m-th smallest, by counting: how many are at most a number, and how many below it.
+// `length s < 2 ^ 32`, which the sum of `count` and `real::from_count` ask, is a clause: a type would have each caller make one.
 #![tactic(auto)]
 
-ghost use Rattle.std.specs.Prelude.{◌≡◌, ◌^◌, ◌⊎◌, ◌≤◌, ◌<◌, T, length, count_by};
+ghost use Rattle.std.specs.Prelude.{◌≡◌, ◌^◌, ◌⊎◌, ◌≤◌, ◌<◌, T, Bool, Float, length, count_by};
 ghost use Rattle.std.specs.Float.Ieee.{le, lt};
 ghost use Rattle.selection.specs.Kth.{is_kth, kth_smallest};
 
-// How many of s are at most v. A sum, since `filter(..).count()` branches at each number, which takes three times as long.
-fn at_most(s: &[f64], v: f64) -> usize
-    requires { length s.now < 2 ^ 32 }
-    ensures { result ≡ count_by (λ x. le x v) s.now }
+// How many of s pass the test, by any p that says what it answers. A sum, since `filter(..).count()` branches at each number, which
+// takes three times as long.
+fn count<F: Fn(f64) -> bool>(s: &[f64], test: F) -> usize
+    requires few { length s.now < 2 ^ 32 }
+    requires test { F.IsAlwaysCallable test }
+    ensures { (p : Float → Bool) → ((x : Float) (b : Bool) → F.post test x b → b ≡ p x) → result ≡ count_by p s.now }
 {
-    s.iter().map(|x| usize::from(*x <= v)).sum()
-}
-
-// How many of s are below v, likewise.
-fn fewer(s: &[f64], v: f64) -> usize
-    requires { length s.now < 2 ^ 32 }
-    ensures { result ≡ count_by (λ x. lt x v) s.now }
-{
-    s.iter().map(|x| usize::from(*x < v)).sum()
+    s.iter().map(|x| usize::from(test(*x))).sum()
 }
 
 // Whether v is the m-th smallest of s.
@@ -27,7 +22,7 @@ fn is_kth(s: &[f64], m: usize, v: f64) -> bool
     requires { length s.now < 2 ^ 32 }
     ensures { result ≡ is_kth s.now m v }
 {
-    m <= at_most(s, v) && fewer(s, v) < m
+    m <= count(s, |x| x <= v) && count(s, |x| x < v) < m
 }
 
 // Where a number is looked for: from lo on and below hi, and how many numbers are below either. What makes and narrows a bracket
@@ -52,7 +47,7 @@ fn whole(n: usize, top: f64) -> Bracket
     }
 }
 
-// The bracket from x on, which so many are below.
+// The bracket from x on, which so many are below; `ended` sets the other two fields.
 fn raised(b: Bracket, x: f64, below: f64) -> Bracket {
     Bracket {
         lo: x,
@@ -80,7 +75,6 @@ fn part(b: Bracket, rank: f64, t: u64) -> f64 {
 }
 
 // The bracket cut up to 16 times, until m of s are below its end.
-#[tactic(auto, using(crate::proofs::Counts::few_below))]
 fn narrow(s: &[f64], m: usize, from: Bracket) -> Bracket
     requires { (length s.now < 2 ^ 32) × (m ≤ length s.now) }
 {
@@ -89,7 +83,7 @@ fn narrow(s: &[f64], m: usize, from: Bracket) -> Bracket
     // Counted: t says which cut, every third in the middle.
     for t in 0..16u64 {
         let at = part(b, rank, t);
-        let c = fewer(s, at);
+        let c = count(s, |x| x < at);
         let below = real::from_count(c);
         if c == m {
             return ended(b, at, below);
@@ -137,10 +131,10 @@ fn each(s: &[f64], m: usize, otherwise: f64) -> f64
         .fold(otherwise, |v, x| if is_kth(s, m, *x) { *x } else { v })
 }
 
-// The m-th smallest of s, `otherwise` where they are fewer: found by brackets, which end at about `otherwise` where that is the
-// greatest. Numbers that are equal keep a bracket from having one number only, so it is judged after every 16 cuts. Where the
+// The m-th smallest of s, `otherwise` where they are fewer, which is no `Option`'s None: found by brackets, which end at about
+// `otherwise` where that is the greatest. Numbers that are equal keep a bracket from having one number only, so it is judged after every 16 cuts. Where the
 // brackets find none (some are infinite or NaN, or many differ by next to nothing), each number is judged.
-#[tactic(auto, using(crate::proofs::Counts::few_below, crate::proofs::Counts::selected, crate::proofs::Counts::selected_few))]
+#[tactic(auto, using(crate::proofs::Counts::selected, crate::proofs::Counts::selected_few))]
 pub fn select(s: &[f64], m: usize, otherwise: f64) -> f64
     requires { length s.now < 2 ^ 32 }
     ensures { T (is_kth s.now m result) ⊎ (result ≡ kth_smallest s.now m otherwise) }
@@ -156,7 +150,7 @@ pub fn select(s: &[f64], m: usize, otherwise: f64) -> f64
         if is_kth(s, m, v) {
             return v;
         }
-        b = ended(b, v, real::from_count(fewer(s, v)));
+        b = ended(b, v, real::from_count(count(s, |x| x < v)));
     }
     if is_kth(s, m, otherwise) {
         return otherwise;

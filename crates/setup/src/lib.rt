@@ -1,4 +1,7 @@
 // What a job is: its bandwidth, its options, and its sizes. None of these changes while it is worked.
+//
+// No type but `Sample` and `Problem` says that sizes fit, and none that a bandwidth is usable: a bandwidth or a size that is handed over may be anything, and is refused with its number. Behind
+// the checks what is known of them is a clause: `Setup` is a part of the record, which may be unfit.
 #![tactic(auto)]
 
 ghost use Rattle.std.specs.Prelude.{◌≡◌};
@@ -9,7 +12,7 @@ use kernel::GwrKernel;
 
 mod problem;
 
-pub use problem::{Columns, Problem};
+pub use problem::{Columns, Problem, Sample};
 
 // 000's bandwidth: a distance, or a number of neighbours.
 #[derive(Clone, Copy, PartialEq, Debug)]
@@ -19,7 +22,7 @@ pub enum GwrBandwidth {
 }
 
 impl GwrBandwidth {
-    // The number that a summary reports: the distance, or the count as a real.
+    // The number that a summary reports: the distance, or the count as a real. No `From`, since it asks for a usable one.
     pub fn report_value(self) -> f64
         requires { Usable self }
         ensures { result ≡ report_value self }
@@ -38,7 +41,7 @@ pub enum GwrCriterion {
     Guarded,
 }
 
-// 000's options, and the criterion.
+// 000's options, a flag among them, and the criterion.
 #[derive(Clone, Copy, PartialEq, Debug)]
 pub struct GwrOptions {
     pub kernel: GwrKernel,

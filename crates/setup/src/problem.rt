@@ -1,8 +1,10 @@
 // What is lent for a job: the columns of its data, and these beside options and sizes once their lengths are known to fit.
 ghost use Rattle.std.specs.Prelude.{◌≡◌, ◌*◌, ◌≤◌, ◌<◌, length};
 ghost use Rattle.kernel.specs.Place.{place_at};
+ghost use Rattle.setup.specs.Data.{data_of};
 ghost use Rattle.setup.specs.Data.Trusts.{each};
 ghost use Rattle.setup.specs.Shape.{Shaped};
+ghost use Rattle.setup.specs.Problem.{sample_of};
 
 use super::Setup;
 use kernel::Place;
@@ -25,22 +27,95 @@ impl<'a> Model for Columns<'a> {
     ghost view = { λ o. trusted_data o.coords.now o.predictors.now o.responses.now o.trusts.now };
 }
 
-// A job's options and sizes beside its data, whose lengths fit: what every solve works on.
+// What 000 is handed, its lengths known to fit: options and sizes beside coordinates, predictors and responses. What asks for no trust
+// but through the weights works on a sample.
 #[derive(Drop)]
-pub struct Problem<'a> {
+pub struct Sample<'a> {
     setup: Setup,
-    columns: Columns<'a>,
+    coords: &'a [f64],
+    predictors: &'a [f64],
+    responses: &'a [f64],
 }
 
-impl<'a> Model for Problem<'a> {
+impl<'a> Model for Sample<'a> {
+    ghost use Rattle.setup.specs.Data.{data_of};
     ghost use Rattle.setup.specs.Problem.{Posed};
     ghost use Rattle.setup.specs.Shape.{Shaped};
 
     ghost Value = { Posed };
 
-    ghost view = { λ p. record { setup = p.setup; columns = p.columns } };
+    ghost view = { λ s. record { setup = s.setup; columns = data_of s.coords.now s.predictors.now s.responses.now } };
 
-    ghost invariant = { λ p. Shaped p.setup p.columns };
+    ghost invariant = { λ s. Shaped s.setup (data_of s.coords.now s.predictors.now s.responses.now) };
+}
+
+impl<'a> Sample<'a> {
+    // The sample of a setup, of which the columns have the lengths. One by one, since `Columns` have trusts.
+    pub fn pose(
+        setup: Setup,
+        coords: &'a [f64],
+        predictors: &'a [f64],
+        responses: &'a [f64],
+    ) -> Self
+        requires { Shaped setup (data_of coords.now predictors.now responses.now) }
+        ensures { result ≡ record { setup = setup; columns = data_of coords.now predictors.now responses.now } }
+    {
+        Sample {
+            setup,
+            coords,
+            predictors,
+            responses,
+        }
+    }
+
+    // Options and sizes. What is known of the lengths of the data is said here.
+    pub fn setup(&self) -> Setup
+        ensures setup { result ≡ self.now.setup }
+        ensures shaped { Shaped self.now.setup self.now.columns }
+    {
+        let Sample { setup, .. } = self;
+        *setup
+    }
+
+    pub fn coords(&self) -> &'a [f64]
+        ensures coords { result.now ≡ self.now.columns.coords }
+        ensures two_each { length result.now ≡ 2 * self.now.setup.n }
+        ensures few { self.now.setup.n ≤ 512 }
+    {
+        self.coords
+    }
+
+    pub fn predictors(&self) -> &'a [f64]
+        ensures predictors { result.now ≡ self.now.columns.predictors }
+        ensures rows { length result.now ≡ self.now.setup.n * self.now.setup.p }
+    {
+        self.predictors
+    }
+
+    pub fn responses(&self) -> &'a [f64]
+        ensures { result.now ≡ self.now.columns.responses }
+    {
+        self.responses
+    }
+}
+
+// A sample and the trust of each observation: what every local solve works on.
+#[derive(Drop)]
+pub struct Problem<'a> {
+    sample: Sample<'a>,
+    trusts: &'a [f64],
+}
+
+impl<'a> Model for Problem<'a> {
+    ghost use Rattle.std.specs.Prelude.{◌≡◌, length};
+    ghost use Rattle.setup.specs.Data.Trusts.{unasked};
+    ghost use Rattle.setup.specs.Problem.{Posed, trusting_each};
+
+    ghost Value = { Posed };
+
+    ghost view = { λ p. trusting_each p.trusts.now p.sample };
+
+    ghost invariant = { λ p. (length p.trusts.now ≡ p.sample.setup.n) × (p.sample.columns.trusts ≡ unasked) };
 }
 
 impl<'a> Problem<'a> {
@@ -49,22 +124,25 @@ impl<'a> Problem<'a> {
         requires { Shaped setup lent.now }
         ensures { result ≡ record { setup = setup; columns = lent.now } }
     {
-        let columns = Columns {
-            coords: lent.coords,
-            predictors: lent.predictors,
-            responses: lent.responses,
+        Problem {
+            sample: Sample::pose(setup, lent.coords, lent.predictors, lent.responses),
             trusts: lent.trusts,
-        };
-        Problem { setup, columns }
+        }
     }
 
-    // Options and sizes. What is known of the lengths of the data is said here.
+    // The same without its trusts.
+    pub fn sample(&self) -> &Sample<'a>
+        ensures { result.now ≡ sample_of self.now }
+    {
+        &self.sample
+    }
+
+    // Options and sizes, handed on from the sample, as coordinates are.
     pub fn setup(&self) -> Setup
         ensures setup { result ≡ self.now.setup }
         ensures shaped { Shaped self.now.setup self.now.columns }
     {
-        let Problem { setup, .. } = self;
-        *setup
+        self.sample.setup()
     }
 
     // Location i.
@@ -72,8 +150,7 @@ impl<'a> Problem<'a> {
         requires { i < self.now.setup.n }
         ensures { result ≡ place_at self.now.columns.coords i }
     {
-        let columns = &self.columns;
-        Place::at(columns.coords, i)
+        Place::at(self.sample.coords(), i)
     }
 
     pub fn coords(&self) -> &'a [f64]
@@ -81,30 +158,13 @@ impl<'a> Problem<'a> {
         ensures two_each { length result.now ≡ 2 * self.now.setup.n }
         ensures few { self.now.setup.n ≤ 512 }
     {
-        let columns = &self.columns;
-        columns.coords
-    }
-
-    pub fn predictors(&self) -> &'a [f64]
-        ensures predictors { result.now ≡ self.now.columns.predictors }
-        ensures rows { length result.now ≡ self.now.setup.n * self.now.setup.p }
-    {
-        let columns = &self.columns;
-        columns.predictors
-    }
-
-    pub fn responses(&self) -> &'a [f64]
-        ensures { result.now ≡ self.now.columns.responses }
-    {
-        let columns = &self.columns;
-        columns.responses
+        self.sample.coords()
     }
 
     pub fn trusts(&self) -> &'a [f64]
         ensures trusts { each result.now ≡ self.now.columns.trusts }
         ensures one_each { length result.now ≡ self.now.setup.n }
     {
-        let columns = &self.columns;
-        columns.trusts
+        self.trusts
     }
 }

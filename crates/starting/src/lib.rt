@@ -27,6 +27,7 @@ fn start(u: Setup, plan: Plan) -> Job
 }
 
 // The input checks, and a job set up for its first trial or its final fit; a refused beginning makes none.
+#[tactic(auto, unfolding(crate::specs::Begin::begin_of))]
 pub fn begin(
     columns: &Columns<'_>,
     p: usize,

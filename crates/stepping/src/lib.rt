@@ -1,4 +1,5 @@
 // The job record, and its step: a fit that is made a local solve at a time.
+// Limits of sizes, and room for rows, are clauses: docs/DECISIONS.md says why.
 #![tactic(auto)]
 
 ghost use Rattle.std.specs.Prelude.{◌≡◌, ◌+◌, ◌*◌, ◌≤◌, length};
@@ -40,7 +41,7 @@ impl Stage {
     pub fn ended_solve(self) -> u64
         ensures { result ≡ ended_solve self }
     {
-        if self.is_ended() { 1 } else { 0 }
+        u64::from(self.is_ended())
     }
 }
 
@@ -51,7 +52,7 @@ pub struct Trials {
     pub made: usize,
 }
 
-// The job record.
+// The job record. It has no invariant: a lent one may be anything, 19 refuses what is not fit, and `Sound` is asked of the others.
 #[derive(Clone, Copy)]
 pub struct Job {
     pub setup: Setup,

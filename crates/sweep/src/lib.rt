@@ -65,10 +65,7 @@ impl Swept {
         requires { self.sweep.location ≤ 512 }
         ensures { result ≡ solves_of self }
     {
-        match self.stopped {
-            None => self.sweep.location as u64,
-            Some(_) => self.sweep.location as u64 + 1,
-        }
+        self.sweep.location as u64 + u64::from(self.stopped.is_some())
     }
 
     // What a whole sweep ends with: its AICc, or the refusal that it met.
@@ -83,7 +80,8 @@ impl Swept {
     }
 }
 
-// Row i, where rows are written and the location was solved.
+// Row i, where rows are written and the location was solved. Whether they are is told beside the output: no contract can name what an
+// Option of a lent slice holds after the call.
 pub fn write_row(out: &mut [f64], rows: bool, u: Setup, i: usize, outcome: Result<Solved, Refusal>)
     requires sizes { (u.n ≤ 512) × (u.p ≤ 7) × (i < u.n) }
     requires room { RoomFor rows u (length out.old) }
@@ -97,6 +95,7 @@ pub fn write_row(out: &mut [f64], rows: bool, u: Setup, i: usize, outcome: Resul
 }
 
 // 000's `fit_all_locations`: locations 0 to n - 1 in order, up to the first refusal, with their rows or, in a trial, without.
+#[tactic(auto, using(real::proofs::Fold::none, crate::proofs::Sweeps::after_found, crate::proofs::Sweeps::visit_going, crate::proofs::Sweeps::stopped_rest, real::proofs::Fold::done), unfolding(crate::specs::Sweep::fit_all_locations))]
 pub fn fit_all_locations(
     problem: &Problem<'_>,
     b: GwrBandwidth,
@@ -137,7 +136,7 @@ pub struct Finish {
 }
 
 impl Finish {
-    // The number that a byte call answers: 0 where no refusal was met, else the refusal's.
+    // How it ended, as a number for C: 0 where no refusal was met, else the refusal's.
     pub fn number(self) -> u32
         ensures { result ≡ finish_number self }
     {

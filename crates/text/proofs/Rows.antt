@@ -1,8 +1,7 @@
 -- The loops over a row's numbers and over the rows.
-use mathlib.Core.Path.{◌≡◌, sym}
+use mathlib.Core.Path.{◌≡◌}
 use mathlib.Core.List.{List, ◌++◌}
 use Prim.Native.Nat.{ℕ, ◌+◌, ◌*◌, ◌≤◌, ◌<◌}
-use native.Mathlib.Nat.{le_trans, le_of_eq, suc-mul, mul-le-mul_right}
 use native.Mathlib.Omega.{arith}
 use lib.ListN.{length, length-append}
 use Rattle.wire.specs.Wire.{load_of}
@@ -31,13 +30,6 @@ module _ {d₀ : List ℕ} {at : ℕ} {out : List ℕ} {first count : ℕ} where
         text = rw (← bits_more out first k, ← is) (and_then n.text w (omega (arith, bits_end v w)));
       }
 
-  pub numbers_all : {k to : ℕ} {d : List ℕ} → Numbering d₀ at out first count k d to → count ≤ k → WrittenText d₀ at (bits_texts (loads out first count)) d to
-  numbers_all {k} n h = let e : count ≡ k = omega arith in rw e n.text
-
--- row i of n rows of k lies within them
-pub row_within : (i n k : ℕ) → i < n → i * k + k ≤ n * k
-row_within i n k h = le_trans (le_of_eq (sym (suc-mul i k))) (mul-le-mul_right k h)
-
 pub length_row_line : (i : ℕ) (row : List ℕ) → length (row_line i row) ≤ 11 + 17 * length row
 unfolding row_line
 length_row_line i row =
@@ -64,6 +56,3 @@ module _ {d₀ : List ℕ} {at : ℕ} {out : List ℕ} {width n : ℕ} where
         reach = reach;
         text = rw (← rows_more out width i) (and_then l.text w (omega arith));
       }
-
-  pub rows_all : {i to : ℕ} {d : List ℕ} → Listing d₀ at out width n i d to → n ≤ i → WrittenText d₀ at (row_lines 0 (rows_of out width n)) d to × (to ≤ at + 198 * n)
-  rows_all {i} l h = let e : n ≡ i = omega arith in (rw e l.text, omega (arith, l.reach))

@@ -1,4 +1,4 @@
-// The text of a listing, written into bytes that the caller lends.
+// The text of a listing, written into bytes that the caller lends: fixed room with how much of it counts, since there is no heap.
 #![tactic(auto)]
 
 ghost use Rattle.std.specs.Prelude.{◌≡◌, ◌+◌, ◌*◌, ◌≤◌, ◌<◌, [], ◌∷◌, length};
@@ -6,14 +6,15 @@ ghost use Rattle.wire.specs.Wire.{load_of};
 ghost use Rattle.text.specs.Listing.{digit_of, hex_in, decimal_in, bits_text, count_text, bits_texts, refused_line, summary_line, row_line, row_lines, listing, loads, rows_of, WrittenText};
 
 // The text so far: the first `len` of the bytes lent. What stands behind it stays until it is written over.
-// Each method adds to it, within the same bytes.
+// Each method adds to it, within the same bytes; each says so, since an invariant speaks of one moment and not of two.
 #[derive(Drop)]
 pub struct Text<'a> {
     pub bytes: &'a mut [u8],
     pub len: usize,
 }
 
-// 0 to 9, then A to F.
+// 0 to 9, then A to F. Digits by hand: `write!` may answer an error, of which its contract says nothing, and no listing may fail.
+#[tactic(auto, unfolding(crate::specs::Listing::digit_of))]
 fn digit(v: u64) -> u8
     requires { v < 16 }
     ensures { result ≡ digit_of v }
@@ -22,6 +23,7 @@ fn digit(v: u64) -> u8
 }
 
 impl Text<'_> {
+    #[tactic(auto, using(crate::proofs::Lines::byte))]
     fn byte(&mut self, b: u8)
         requires { self.old.len < length self.old.bytes.now }
         ensures same_bytes { self.new.bytes.ghost_name ≡ self.old.bytes.ghost_name }
@@ -31,6 +33,7 @@ impl Text<'_> {
         self.len += 1;
     }
 
+    #[tactic(auto, using(crate::proofs::Lines::word_part))]
     fn word(&mut self, word: &[u8])
         requires { self.old.len + length word.now ≤ length self.old.bytes.now }
         ensures same_bytes { self.new.bytes.ghost_name ≡ self.old.bytes.ghost_name }
@@ -93,6 +96,7 @@ impl Text<'_> {
     }
 
     // The line of a fit: no refusal, bandwidth, AICc, solves.
+    #[tactic(auto, using(crate::proofs::Parts::bits_end, crate::proofs::Parts::count_end))]
     pub fn summary(&mut self, summary: &[u8])
         requires { (self.old.len + 47 ≤ length self.old.bytes.now) × (24 ≤ length summary.now) × (load_of summary.now 16 < 1000000) }
         ensures same_bytes { self.new.bytes.ghost_name ≡ self.old.bytes.ghost_name }
@@ -111,13 +115,14 @@ impl Text<'_> {
         ensures same_bytes { self.new.bytes.ghost_name ≡ self.old.bytes.ghost_name }
         ensures written { WrittenText self.old.bytes.now self.old.len (bits_texts (loads out.now first count)) self.new.bytes.now self.new.len }
     {
-        // An index: chunks of out[8 * first..8 * (first + count)] are no plainer.
+        // An index: number k stands at byte 8 * (first + k), and chunks of out[8 * first..8 * (first + count)] are no plainer.
         for k in 0..count {
             self.bits(wire::load(out, 8 * (first + k)));
         }
     }
 
     // The line of row i, `width` numbers.
+    #[tactic(auto, using(crate::proofs::Parts::count_end, crate::proofs::Parts::numbers_end))]
     pub fn row(&mut self, out: &[u8], i: usize, width: usize)
         requires { (self.old.len + 198 ≤ length self.old.bytes.now) × (width ≤ 11) × (i < 1000000) × (8 * (i * width + width) ≤ length out.now) }
         ensures same_bytes { self.new.bytes.ghost_name ≡ self.old.bytes.ghost_name }
@@ -143,7 +148,8 @@ impl Text<'_> {
     }
 }
 
-// A refusal's line; answers where the text ends. The number, since text stands below refusals.
+// A refusal's line; answers where the text ends. The number: that is all that a line has of a refusal.
+#[tactic(auto, using(crate::proofs::Parts::count_end))]
 pub fn put_refused(text: &mut [u8], number: u32) -> usize
     requires { (11 ≤ length text.old) × (number < 1000000) }
     ensures { WrittenText text.old 0 (refused_line number) text.new result }
@@ -159,6 +165,7 @@ pub fn put_refused(text: &mut [u8], number: u32) -> usize
 }
 
 // The listing of a fit: its line, and one for each row; answers where the text ends.
+#[tactic(auto, using(crate::proofs::Parts::summary_end))]
 pub fn put_fit(text: &mut [u8], summary: &[u8], out: &[u8], n: usize, width: usize) -> usize
     requires rows_fit { (47 + 198 * n ≤ length text.old) × (n ≤ 1000000) × (width ≤ 11) × (8 * (n * width) ≤ length out.now) }
     requires summary_fits { (24 ≤ length summary.now) × (load_of summary.now 16 < 1000000) }

@@ -1,5 +1,6 @@
 // Fits fixed jobs whose trusts may surprise, and their plain neighbours, and prints each as `gwrprint` prints a job: the line of the
 // fit, and a line for each row. rust/oracle/src/trusts.rs holds what is stored of it against 000.
+// Printed through the handle: `text` writes to bytes, so that a proof can speak of them.
 #![tactic(auto)]
 
 ghost use Rattle.std.specs.Prelude.{◌≤◌, ◌<◌};
@@ -24,7 +25,7 @@ fn print_summary(rt: &impl Print, s: Summary) -> io::Result<()> {
     println!(rt; " {}", s.solves)
 }
 
-// The lines of whole rows.
+// The lines of whole rows, `width` numbers each.
 fn print_rows(rt: &impl Print, rows: &[f64], width: usize) -> io::Result<()>
     requires { 0 < width }
 {
@@ -38,8 +39,9 @@ fn print_rows(rt: &impl Print, rows: &[f64], width: usize) -> io::Result<()>
     Ok(())
 }
 
-fn print_refused(rt: &impl Print, number: u32) -> io::Result<()> {
-    println!(rt; "fit {number}")
+// The line of a fit that is refused: the number alone.
+fn print_refused(rt: &impl Print, refusal: Refusal) -> io::Result<()> {
+    println!(rt; "fit {}", refusal.number())
 }
 
 // What a fit answered, with `rows` as its output.
@@ -52,9 +54,9 @@ fn print_answer(
     requires { 0 < width }
 {
     match fit {
-        Err(r) => print_refused(rt, r.number()),
+        Err(r) => print_refused(rt, r),
         Ok(fit) => match fit.finish.refusal {
-            Some(r) => print_refused(rt, r.number()),
+            Some(r) => print_refused(rt, r),
             None => {
                 print_summary(rt, fit.finish.summary)?;
                 print_rows(rt, rows, width)
@@ -169,7 +171,7 @@ fn alone_each(rt: &impl Print) -> io::Result<()> {
     alone(rt, "alone, trust 1e-11", 1e-11, 4)?;
     alone(rt, "alone, trust 0", 0.0, 4)?;
     alone(rt, "alone, trust -0", -0.0, 4)?;
-    alone(rt, "alone, trust NaN", 0.0 / 0.0, 4)?;
+    alone(rt, "alone, trust NaN", f64::NAN, 4)?;
     alone(rt, "alone, trust -1e-300", -1e-300, 4)?;
     alone(rt, "alone, trust 1.0000000000000002", 1.0000000000000002, 4)?;
     alone(rt, "alone, trust 2, the output too short", 2.0, 3)?;

@@ -1,7 +1,8 @@
 // Whether two records, or two outputs, are the same.
 //
 // Reals are the same by their bits: as numbers a NaN is unequal to itself, and -0 equal to 0. So a record has an image, in which
-// reals are their bits, and images are compared by derived equality.
+// reals are their bits, and images are compared by derived equality. They are types of their own: the record's types would get a
+// parameter, the type of a number, for this program's sake.
 use golden::Bracket;
 use kernel::GwrKernel;
 use refusal::Refusal;
@@ -58,7 +59,7 @@ impl From<Stage> for StageImage {
             Stage::Second => StageImage::Second,
             Stage::Round => StageImage::Round,
             Stage::Final => StageImage::Final,
-            Stage::Ended(c) => StageImage::Ended(c.map(|v| Bits::from(v))),
+            Stage::Ended(c) => StageImage::Ended(c.map(Bits::from)),
         }
     }
 }
@@ -67,6 +68,7 @@ fn bracket_image(g: Bracket) -> [Bits; 9] {
     [g.a, g.b, g.c, g.d, g.h, g.fc, g.fd, g.best, g.low].map(Bits::from)
 }
 
+// The flag is the option that 000 has.
 #[derive(Clone, Copy, PartialEq, Eq)]
 struct JobImage {
     kernel: GwrKernel,

@@ -1,7 +1,5 @@
 // One turn of a list, some of which are lent what they must refuse.
-ghost use Rattle.std.specs.Prelude.{◌^◌, ◌<◌};
-
-use crate::made;
+use crate::seed::Seed;
 use job::Turned;
 use refusal::Refusal;
 use setup::Columns;
@@ -14,15 +12,13 @@ pub struct Given {
     pub want: Option<Refusal>,
 }
 
-// The allowance of a turn: zero, one, a few, many, or all that there are.
-fn allowance_of(seed: u64, k: u32) -> u32
-    requires { seed < 2 ^ 31 }
-{
+// The allowance of a turn: zero, one, a few, many, or all that there are. By a number, since a seed draws it.
+fn allowance_of(seed: Seed, k: u32) -> u32 {
     if 36 < k {
         return u32::MAX;
     }
-    let few = made::draw(made::next_seed(seed), 12) as u32;
-    match made::draw(seed, 24) {
+    let few = seed.next().draw(12) as u32;
+    match seed.draw(24) {
         0..=3 => 0,
         4..=11 => 1,
         12..=15 => few + 2,
@@ -71,10 +67,8 @@ const KINDS: [Kind; 12] = [
 
 // Which turn this is: the last one of a list is a plain one, and only lists that spoil trusts have the kinds that do. Where there is no
 // predictor to spoil, no output is lent.
-fn kind_of(seed: u64, k: u32, spoils: bool, x: &[f64]) -> Kind
-    requires { seed < 2 ^ 31 }
-{
-    let at = made::draw(made::next_seed(seed), 24) as usize;
+fn kind_of(seed: Seed, k: u32, spoils: bool, x: &[f64]) -> Kind {
+    let at = seed.next().draw(24) as usize;
     let kinds = if spoils { 12 } else { 7 };
     if (38 < k) | (kinds <= at) {
         return Kind::Plain;
@@ -88,14 +82,12 @@ fn kind_of(seed: u64, k: u32, spoils: bool, x: &[f64]) -> Kind
 }
 
 impl Kind {
-    // How many coordinates, predictors, responses and trusts are lent.
-    fn coordinates(self, columns: &Columns<'_>) -> usize {
-        match self {
-            Kind::NoCoordinates => 0,
-            _ => columns.coords.len(),
-        }
+    // How many numbers of a column are lent: none by turns of one kind.
+    fn count(self, lacks: Kind, column: &[f64]) -> usize {
+        if self == lacks { 0 } else { column.len() }
     }
 
+    // How many predictors are lent.
     fn predictors(self, columns: &Columns<'_>) -> usize {
         match self {
             Kind::OtherPredictors => {
@@ -109,13 +101,7 @@ impl Kind {
         }
     }
 
-    fn responses(self, columns: &Columns<'_>) -> usize {
-        match self {
-            Kind::NoResponses => 0,
-            _ => columns.responses.len(),
-        }
-    }
-
+    // How many trusts are lent.
     fn trusts(self, columns: &Columns<'_>) -> usize {
         match self {
             Kind::NoTrusts => 0,
@@ -128,11 +114,12 @@ impl Kind {
         (self != Kind::NoOutput) & (self != Kind::TrustNanNoOutput)
     }
 
-    // What the last number of a slice is replaced with by turns of one kind, and the last trust.
+    // What the last number of a slice is replaced with by turns of one kind.
     fn bad(self, spoils: Kind, v: f64) -> Option<f64> {
         (self == spoils).then_some(v)
     }
 
+    // What the last trust is replaced with.
     fn bad_trust(self) -> Option<f64> {
         match self {
             Kind::TrustAboveOne => Some(1.0000000000000002),
@@ -170,7 +157,7 @@ fn lend(from: &[f64], to: &mut [f64], last: Option<f64>) {
     }
 }
 
-// A turn of this kind.
+// A turn of this kind, lent what it is to be lent in arrays of fixed room, since there is no heap.
 fn turn_of(kind: Kind, j: Job, columns: &Columns<'_>, out: &mut [f64], allowance: u32) -> Turned {
     let mut coords = [0.0; 24];
     let mut x = [0.0; 36];
@@ -194,9 +181,9 @@ fn turn_of(kind: Kind, j: Job, columns: &Columns<'_>, out: &mut [f64], allowance
     lend(columns.trusts, &mut trust, kind.bad_trust());
     let out_end = if kind.lends_output() { out.len() } else { 0 };
     let lent = Columns {
-        coords: &coords[..kind.coordinates(columns).min(24)],
+        coords: &coords[..kind.count(Kind::NoCoordinates, columns.coords).min(24)],
         predictors: &x[..kind.predictors(columns).min(36)],
-        responses: &y[..kind.responses(columns).min(12)],
+        responses: &y[..kind.count(Kind::NoResponses, columns.responses).min(12)],
         trusts: &trust[..kind.trusts(columns).min(12)],
     };
     job::turn(j, &lent, &mut out[..out_end], allowance)
@@ -207,12 +194,10 @@ pub fn give_turn(
     j: Job,
     columns: &Columns<'_>,
     out: &mut [f64],
-    seed: u64,
+    seed: Seed,
     k: u32,
     spoils: bool,
-) -> Given
-    requires { seed < 2 ^ 31 }
-{
+) -> Given {
     let kind = kind_of(seed, k, spoils, columns.predictors);
     let want = if j.stage.is_ended() {
         Some(Refusal::AlreadyEnded)

@@ -1,10 +1,12 @@
 // Jobs made from a pseudo-random sequence with a fixed seed.
-ghost use Rattle.std.specs.Prelude.{◌≡◌, ◌^◌, ◌<◌, ◌≤◌, length};
+ghost use Rattle.std.specs.Prelude.{◌≤◌};
 
+use crate::seed::Seed;
 use crate::trusts::{self, Sort};
 use kernel::GwrKernel;
 use setup::{GwrBandwidth, GwrCriterion, GwrOptions};
 
+// Arrays have the room of the largest case, of which n and p say how much counts, since there is no heap.
 #[derive(Drop)]
 pub struct Case {
     pub n: usize,
@@ -14,30 +16,15 @@ pub struct Case {
     pub x: [f64; 36],
     pub y: [f64; 12],
     pub trust: [f64; 12],
-    pub seed: u64,
+    pub seed: Seed,
 }
 
-// The next number of the sequence.
-pub fn next_seed(s: u64) -> u64
-    requires { s < 2 ^ 31 }
-    ensures { result < 2 ^ 31 }
-{
-    (s * 1103515245 + 12345) % 0x8000_0000
-}
-
-// A number from 0 to k - 1, from the better digits of a seed.
-pub fn draw(s: u64, k: u64) -> u64
-    requires { 0 < k }
-    ensures { result < k }
-{
-    s / 65536 % k
-}
-
-// A value: whole numbers 0 to 2, huge numbers, or tenths up to 100. By a number, which a seed draws.
-fn value(s: u64, style: u64) -> f64 {
-    let v = (draw(s, 1000) as u32) as f64 / 10.0;
+// A value: whole numbers 0 to 2, huge numbers, or tenths up to 100.
+// By a number, since a seed draws it: an enum would be made of the number by the same match.
+fn value(s: Seed, style: u64) -> f64 {
+    let v = (s.draw(1000) as u32) as f64 / 10.0;
     match style {
-        0 => (draw(s, 3) as u32) as f64,
+        0 => (s.draw(3) as u32) as f64,
         1 => v * 1e160,
         2 => v * 1e-9,
         _ => v,
@@ -45,14 +32,12 @@ fn value(s: u64, style: u64) -> f64 {
 }
 
 // Fills s with what f makes of each place and the next seed; answers the seed after them.
-pub fn fill<F: Fn(usize, u64) -> f64>(s: &mut [f64], seed: u64, f: F) -> u64
-    requires low { seed < 2 ^ 31 }
-    requires callable { F.IsAlwaysCallable f }
-    ensures { result < 2 ^ 31 }
+pub fn fill<F: Fn(usize, Seed) -> f64>(s: &mut [f64], seed: Seed, f: F) -> Seed
+    requires { F.IsAlwaysCallable f }
 {
     let mut at = seed;
     for (i, v) in s.iter_mut().enumerate() {
-        at = next_seed(at);
+        at = at.next();
         *v = f(i, at);
     }
     at
@@ -64,19 +49,19 @@ const KERNELS: [GwrKernel; 3] = [
     GwrKernel::Exponential,
 ];
 
-fn bandwidth_of(k: u64, seed: u64) -> GwrBandwidth {
+// The kinds in turn, by the number of the job.
+fn bandwidth_of(k: u64, seed: Seed) -> GwrBandwidth {
     if k % 2 == 0 {
-        GwrBandwidth::Fixed((draw(seed, 1200) as u32) as f64 / 10.0)
+        GwrBandwidth::Fixed((seed.draw(1200) as u32) as f64 / 10.0)
     } else {
-        GwrBandwidth::AdaptiveKnn(draw(seed, 14) as usize)
+        GwrBandwidth::AdaptiveKnn(seed.draw(14) as usize)
     }
 }
 
 // Case k: every kernel and kind in turn, sizes and values from the seed, and trusts of this sort. These are drawn from a seed of
 // their own, so that the case is otherwise the same whatever its sort.
-pub fn make_case(seed: u64, k: u64, criterion: GwrCriterion, sort: Sort) -> Case
-    requires { seed < 2 ^ 31 }
-    ensures { (result.n ≤ 10) × (result.p ≤ 2) × (result.seed < 2 ^ 31) }
+pub fn make_case(seed: Seed, k: u64, criterion: GwrCriterion, sort: Sort) -> Case
+    ensures { (result.n ≤ 10) × (result.p ≤ 2) }
 {
     let mut coords = [0.0; 24];
     let mut x = [0.0; 36];
@@ -88,15 +73,16 @@ pub fn make_case(seed: u64, k: u64, criterion: GwrCriterion, sort: Sort) -> Case
         optimize_bandwidth: k / 6 % 2 == 1,
         criterion,
     };
-    let a = next_seed(seed);
-    let b = fill(&mut coords, a, |_, s| value(s, draw(a, 8)));
-    let c = fill(&mut x, b, |_, s| value(s, draw(b, 8)));
-    let d = fill(&mut y, c, |_, s| value(s, draw(c, 8)));
-    let n = draw(d, 10) + 1;
-    trusts::fill_trusts(&mut trust, sort, draw(d / 2, n) as usize, d / 2);
+    let a = seed.next();
+    let b = fill(&mut coords, a, |_, s| value(s, a.draw(8)));
+    let c = fill(&mut x, b, |_, s| value(s, b.draw(8)));
+    let d = fill(&mut y, c, |_, s| value(s, c.draw(8)));
+    let n = d.draw(10) + 1;
+    let half = d.half();
+    trusts::fill_trusts(&mut trust, sort, half.draw(n) as usize, half);
     Case {
         n: n as usize,
-        p: draw(next_seed(d), 3) as usize,
+        p: d.next().draw(3) as usize,
         options,
         coords,
         x,

@@ -8,9 +8,11 @@ mod made;
 mod play;
 mod refuse;
 mod report;
+mod seed;
 mod tally;
 mod trusts;
 
+use seed::Seed;
 use setup::GwrCriterion;
 use std::io;
 use tally::Tally;
@@ -25,12 +27,13 @@ fn sort_of(k: u64, trusted: bool) -> Sort {
     }
 }
 
-// So many jobs of one seed by this criterion, with trusts of every sort or all of them 1.
+// So many jobs by this criterion, with trusts of every sort, which turns may spoil, or, where the flag is not set, all of them 1.
 fn play_all(criterion: GwrCriterion, jobs: u64, trusted: bool) -> Tally {
     let mut t = Tally::new();
-    let mut seed = 20261115u64;
+    let mut seed = Seed::first();
+    // Counted: k is the number of the job.
     for k in 0..jobs {
-        seed = made::next_seed(seed);
+        seed = seed.next();
         let case = made::make_case(seed, k, criterion, sort_of(k, trusted));
         play::play_case(case, trusted, &mut t);
     }

@@ -1,10 +1,11 @@
 // A job fitted uninterrupted and under lists of turns.
-ghost use Rattle.std.specs.Prelude.{◌≡◌, ◌^◌, ◌<◌, ◌≤◌, length};
+ghost use Rattle.std.specs.Prelude.{◌≤◌};
 
 use crate::lend::Given;
 use crate::made::Case;
+use crate::seed::Seed;
 use crate::tally::Tally;
-use crate::{compare, lend, made};
+use crate::{compare, lend};
 use criterion::Summary;
 use gwr::Fit;
 use job::{Answer, Turned};
@@ -14,6 +15,7 @@ use stepping::Job;
 use sweep::Finish;
 
 // After a turn: whether its output is that of the record that follows, and that of the uninterrupted fit, and the steps so far.
+// The flags are outcomes of comparisons, and no value depends on them.
 #[derive(Clone, Copy)]
 struct Seen {
     beside: bool,
@@ -22,7 +24,7 @@ struct Seen {
 }
 
 // A job that has begun: its first record and the columns of its data, and the end and the output of its uninterrupted fit. Some turns
-// are lent bad trusts where `spoils`.
+// are lent bad trusts where `spoils`, a flag that decides no other field.
 #[derive(Clone, Copy)]
 struct Begun<'a> {
     first: Job,
@@ -34,7 +36,7 @@ struct Begun<'a> {
 
 // The uninterrupted fit of a case, and four lists of turns that are to end as it does.
 pub fn play_case(c: Case, spoils: bool, t: &mut Tally)
-    requires { (c.n ≤ 10) × (c.p ≤ 2) × (c.seed < 2 ^ 31) }
+    requires { (c.n ≤ 10) × (c.p ≤ 2) }
 {
     let columns = Columns {
         coords: &c.coords[..2 * c.n],
@@ -50,12 +52,10 @@ fn play_columns(
     columns: &Columns<'_>,
     p: usize,
     options: GwrOptions,
-    seed: u64,
+    seed: Seed,
     spoils: bool,
     t: &mut Tally,
-)
-    requires { seed < 2 ^ 31 }
-{
+) {
     let mut rows = [0.5; 100];
     let ending = ending_of(gwr::gwr_fit(columns, p, options, &mut rows));
     t.fitted(ending.refusal);
@@ -74,7 +74,7 @@ fn play_columns(
     }
 }
 
-// How a fit ended. Only rejected fits have the numbers 1 to 13, and they have no summary.
+// How a fit ended, as one record to compare with. Only rejected fits have the numbers 1 to 13 and 26, and they have no summary.
 fn ending_of(fit: Result<Fit, Refusal>) -> Finish {
     match fit {
         Ok(fit) => fit.finish,
@@ -85,21 +85,17 @@ fn ending_of(fit: Result<Fit, Refusal>) -> Finish {
     }
 }
 
-fn play_lists(b: Begun<'_>, seed: u64, t: &mut Tally)
-    requires { seed < 2 ^ 31 }
-{
+fn play_lists(b: Begun<'_>, seed: Seed, t: &mut Tally) {
     let mut at = seed;
-    // Counted: nothing is indexed.
-    for k in 0..4u32 {
-        at = made::next_seed(at);
+    // So many times: nothing is indexed.
+    for _ in 0..4 {
+        at = at.next();
         play_list(b, at, &mut *t);
     }
 }
 
 // A list of turns. A second record follows it by steps of one, and a turn is given after the end.
-fn play_list(b: Begun<'_>, seed: u64, t: &mut Tally)
-    requires { seed < 2 ^ 31 }
-{
+fn play_list(b: Begun<'_>, seed: Seed, t: &mut Tally) {
     let mut at = seed;
     let mut played = b.first;
     let mut followed = b.first;
@@ -109,7 +105,7 @@ fn play_list(b: Begun<'_>, seed: u64, t: &mut Tally)
     t.listed();
     // Counted: k is the number of the turn.
     for k in 0..40u32 {
-        at = made::next_seed(at);
+        at = at.next();
         let given = lend::give_turn(played, b.columns, &mut out, at, k, b.spoils);
         played = given.turned.job;
         steps = steps.wrapping_add(given.turned.steps);
@@ -128,12 +124,7 @@ fn play_list(b: Begun<'_>, seed: u64, t: &mut Tally)
 
 // The record after so many turns of one step.
 fn follow(j: Job, columns: &Columns<'_>, out: &mut [f64], steps: u32) -> Job {
-    let mut at = j;
-    // Counted: nothing is indexed.
-    for k in 0..steps {
-        at = job::turn(at, columns, &mut *out, 1).job;
-    }
-    at
+    (0..steps).fold(j, |at, _| job::turn(at, columns, &mut *out, 1).job)
 }
 
 // What a turn answered, held to the record that followed it, to its expected refusal and, where it ended, to the uninterrupted fit.
@@ -153,7 +144,8 @@ fn answered_so(turned: Turned, want: Option<Refusal>, fit: Finish, seen: Seen) -
     }
 }
 
-// Whether a list ended with the fit's refusal, rows and summary, and its turns made as many steps as the fit made solves.
+// Whether a list ended with the fit's refusal, rows and summary, and its turns made as many steps as the fit made solves. Reals by
+// their bits, so not by derived equality.
 fn ended_so(fit: Finish, f: Finish, seen: Seen) -> bool {
     let reals = compare::same_real(fit.summary.bandwidth, f.summary.bandwidth)
         & compare::same_real(fit.summary.aicc, f.summary.aicc);

@@ -1,7 +1,6 @@
 // Trusts of observations, by sorts.
-ghost use Rattle.std.specs.Prelude.{◌^◌, ◌<◌};
-
 use crate::made;
+use crate::seed::Seed;
 
 // How a trust is made from a seed.
 #[derive(Clone, Copy)]
@@ -34,27 +33,27 @@ const OUTSIDE: [f64; 7] = [
     f64::INFINITY,
 ];
 
-fn tenths(s: u64) -> f64 {
-    (made::draw(s, 11) as u32) as f64 / 10.0
+fn tenths(s: Seed) -> f64 {
+    (s.draw(11) as u32) as f64 / 10.0
 }
 
 // Up to twice one of these.
-fn scaled(least: [f64; 6], s: u64) -> f64 {
-    least[made::draw(s, 6) as usize] * (1.0 + tenths(s))
+fn scaled(least: [f64; 6], s: Seed) -> f64 {
+    least[s.draw(6) as usize] * (1.0 + tenths(s))
 }
 
-fn one_or(small: f64, s: u64) -> f64 {
-    if made::draw(s, 2) == 0 { 1.0 } else { small }
+fn one_or(small: f64, s: Seed) -> f64 {
+    if s.draw(2) == 0 { 1.0 } else { small }
 }
 
 impl Trust {
-    fn value(self, s: u64) -> f64 {
+    fn value(self, s: Seed) -> f64 {
         match self {
             Trust::Given(v) => v,
             Trust::Tenths => tenths(s),
             Trust::Tiny => scaled(TINY, s),
             Trust::Smallest => scaled(SMALLEST, s),
-            Trust::Outside => OUTSIDE[made::draw(s, 7) as usize],
+            Trust::Outside => OUTSIDE[s.draw(7) as usize],
             Trust::OneOrTiny => one_or(scaled(TINY, s), s),
             Trust::OneOrSmallest => one_or(scaled(SMALLEST, s), s),
         }
@@ -82,9 +81,7 @@ pub const SORTS: [Sort; 12] = [
 ];
 
 // Fills s with trusts of this sort, the one at `one` set apart.
-pub fn fill_trusts(s: &mut [f64], sort: Sort, one: usize, seed: u64)
-    requires { seed < 2 ^ 31 }
-{
+pub fn fill_trusts(s: &mut [f64], sort: Sort, one: usize, seed: Seed) {
     made::fill(s, seed, |i, at| {
         let trust = if i == one { sort.0 } else { sort.1 };
         trust.value(at)

@@ -32,9 +32,6 @@ pub front_placed : (s : List ℕ) (v : ℕ) → take 0 s ++ (bytes_of v ++ drop 
 unfolding placed
 front_placed s v = sym (ap (λ (n : ℕ). take 0 s ++ (bytes_of v ++ drop (0 + n) s)) (length_bytes_of v))
 
-pub placed_is : (w v : Option Float) (out : List ℕ) (r : ℕ × List ℕ) → w ≡ v → r ≡ placed_weight v out → r ≡ placed_weight w out
-placed_is w v out r e h = h ∙ sym (ap (λ (z : Option Float). placed_weight z out) e)
-
 -- `weigh_distance` refuses exactly a NaN or negative distance
 pub weigh_decides : (k : GwrKernel) (d b : Float) → Decides (distance_tests d) (λ (r : Refusal). weighed k d b ≡ None) (weighed k d b ≡ Some (weight_of k d b))
 unfolding weighed judge

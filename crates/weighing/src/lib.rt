@@ -1,4 +1,4 @@
-// The weight call on bytes.
+// The weight call on bytes. Kernel, distance and bandwidth are numbers, as document 01's call passes them.
 #![tactic(auto)]
 
 ghost use Rattle.std.specs.Prelude.{◌≡◌, ◌≤◌, ◌<◌, length};
@@ -9,6 +9,7 @@ use kernel::GwrKernel;
 use refusal::Refusal;
 
 // The weight, or the weight 0 and refusal 9, to the first 8 bytes of out.
+#[tactic(auto, using(crate::proofs::Judged::front_placed))]
 fn placed_weight(weighed: Option<f64>, out: &mut [u8]) -> Result<(), Refusal>
     requires { 8 ≤ length out.old }
     ensures { (answer_number result, out.new) ≡ placed_weight weighed out.old }
@@ -26,6 +27,7 @@ fn placed_weight(weighed: Option<f64>, out: &mut [u8]) -> Result<(), Refusal>
 }
 
 // The same, or refusal 13 where out has fewer than 8 bytes.
+#[tactic(auto, unfolding(crate::specs::Weighing::weighed_bytes))]
 fn weighed_bytes(weighed: Option<f64>, out: &mut [u8]) -> Result<(), Refusal>
     ensures { (answer_number result, out.new) ≡ weighed_bytes weighed out.old }
 {
@@ -36,6 +38,7 @@ fn weighed_bytes(weighed: Option<f64>, out: &mut [u8]) -> Result<(), Refusal>
 }
 
 // The weight call: the weight of the distance of bits d at the bandwidth of bits b, to the first 8 bytes of out.
+#[tactic(auto, using(crate::proofs::Judged::weight_unknown, crate::proofs::Judged::weight_weighed))]
 pub fn weight_bytes(kernel: u64, d: u64, b: u64, out: &mut [u8]) -> Result<(), Refusal>
     ensures { (answer_number result, out.new) ≡ weight_bytes kernel d b out.old }
 {

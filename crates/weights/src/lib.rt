@@ -11,7 +11,7 @@ use setup::Problem;
 mod near;
 
 // The weight of each observation seen from the place, its trust included, in order, into w, which is handed over as zeros; answers
-// their sum.
+// their sum. An array with room for 512, the most observations, since no heap is used.
 pub fn weigh(problem: &Problem<'_>, place: Place, b: f64, w: &mut [f64; 512]) -> f64
     requires zeros { w.old ≡ replicate 512 zero64 }
     ensures { (w.new, result) ≡ weights_from problem.now.setup problem.now.columns place.east place.north b }
@@ -19,10 +19,8 @@ pub fn weigh(problem: &Problem<'_>, place: Place, b: f64, w: &mut [f64; 512]) ->
     let coords = problem.coords();
     let trusts = problem.trusts();
     let kernel = problem.setup().options.kernel;
-    let reach = kernel.reach(b);
-    if reach.is_nan() {
-        near::weigh_all(coords, trusts, kernel, place, b, w)
-    } else {
-        near::weigh_within(coords, trusts, kernel, place, b, reach, w)
+    match kernel.reach(b) {
+        Some(reach) => near::weigh_within(coords, trusts, kernel, place, b, reach, w),
+        None => near::weigh_all(coords, trusts, kernel, place, b, w),
     }
 }

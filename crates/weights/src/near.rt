@@ -1,6 +1,7 @@
 // What makes the weights fast: no root beyond a kernel's reach; and where there is no reach all distances are guessed, then settled,
 // then weighed by the kernel, then by their trusts, each in a loop of its own: a guess waits for divisions, and an exponential keeps
-// no number in its register and leaves room for little beside it.
+// no number in its register and leaves room for little beside it. Coordinates and trusts come one by one: the definitions take them so,
+// and nothing else of the problem is read.
 ghost use Rattle.std.specs.Prelude.{◌≡◌, ◌*◌, ◌≤◌, length};
 ghost use Rattle.kernel.specs.Reach.{Reach};
 ghost use Rattle.weights.specs.Near.{near_distance, near_weights, kernel_over, Filled};
@@ -11,6 +12,7 @@ use kernel::{GwrKernel, Place};
 fn guess_all(coords: &[f64], place: Place, y: &mut [f64])
     requires { 2 * length y.old ≤ length coords.now }
 {
+    // By numbers: `Place::at` reads both coordinates of one.
     for (j, d) in y.iter_mut().enumerate() {
         *d = place.guess_distance(Place::at(coords, j));
     }
@@ -21,6 +23,7 @@ fn settle_all(coords: &[f64], place: Place, y: &mut [f64])
     requires { 2 * length y.old ≤ length coords.now }
     ensures { Filled (near_distance coords.now place.east place.north) (length y.new) y.new }
 {
+    // By numbers: a place is two of coords for one of y, and of what a zip writes a proof knows nothing afterwards.
     for (j, d) in y.iter_mut().enumerate() {
         *d = place.settle_distance(Place::at(coords, j), *d);
     }
@@ -53,7 +56,7 @@ pub fn weigh_all(
     settle_all(coords, place, &mut *y);
     kernel_all(kernel, b, &mut *y);
     let mut sum = 0.0;
-    // By an index: what a zip over lent numbers writes is not known behind it.
+    // By an index: distances, trusts and weights stand side by side, and of what a zip writes a proof knows nothing afterwards.
     for j in 0..trusts.len() {
         let v = y[j] * trusts[j];
         w[j] = v;
@@ -62,7 +65,8 @@ pub fn weigh_all(
     sum
 }
 
-// The same, for the reach of the kernel at bandwidth b: no root is taken beyond it.
+// The same, for the reach of the kernel at bandwidth b: no root is taken beyond it. Apart from `weigh_all`, whose passes take every
+// root before they weigh.
 pub fn weigh_within(
     coords: &[f64],
     trusts: &[f64],
@@ -77,6 +81,7 @@ pub fn weigh_within(
     ensures { (w.new, result) ≡ near_weights kernel coords.now trusts.now (length trusts.now) place.east place.north b w.old }
 {
     let mut sum = 0.0;
+    // By an index, as in `weigh_all`.
     for j in 0..trusts.len() {
         let s = place.squares(Place::at(coords, j));
         let v = kernel.weight_within(s, b, reach) * trusts[j];

@@ -1,11 +1,11 @@
 -- The loop of `decode`: the first k reals, and then what was there.
 use mathlib.Core.Path.{◌≡◌, refl, sym, ◌∙◌}
-use mathlib.Core.List.{List, [], ◌∷◌, ◌++◌, append_assoc, append-nil}
-use Prim.Native.Nat.{ℕ, zero, suc, ◌+◌, ◌*◌, ◌≤◌, ◌<◌}
+use mathlib.Core.List.{List, [], ◌∷◌, ◌++◌, append_assoc}
+use Prim.Native.Nat.{ℕ, zero, suc, ◌+◌, ◌*◌, ◌<◌}
 use native.Mathlib.Numerals.{add-one}
 use native.Mathlib.Omega.{arith}
 use lib.ListN.{length, drop, get_or, set, length-append}
-use lib.Seq.{drop-cons, drop-length, set_at}
+use lib.Seq.{drop-cons, set_at}
 use lib.Ieee.{Float, nan}
 use Rattle.wire.specs.Wire.{reals, real_of, load_of}
 
@@ -31,6 +31,3 @@ module _ {s : List ℕ} {into₀ : List Float} where
             rw (c.is, e, add-one, drop-cons into₀ k nan room)
             (set_at (reals s k) (get_or into₀ k nan) (drop (suc k) into₀) (real_of (load_of s (8 * k))) k (length_reals s k) ∙ sym (append_assoc (reals s k) (real_of (load_of s (8 * k)) ∷ []) (drop (suc k) into₀)));
       }
-
-  pub done : {k : ℕ} {into : List Float} → Decoding s into₀ k into → k ≤ length into₀ → length into₀ ≤ k → into ≡ reals s (length into₀)
-  done {k} c most h = let e : k ≡ length into₀ = omega arith in rw (c.is, e, drop-length into₀) (append-nil (reals s (length into₀)))

@@ -1,11 +1,11 @@
 -- The loop of `encode`: the bytes of the first k reals, and then what was there.
 use mathlib.Core.Path.{◌≡◌, refl, sym, ap, ◌∙◌}
 use mathlib.Core.List.{List, [], ◌∷◌, ◌++◌, append_assoc, append-nil}
-use Prim.Native.Nat.{ℕ, ◌+◌, ◌*◌, ◌≤◌, ◌<◌}
+use Prim.Native.Nat.{ℕ, ◌+◌, ◌*◌, ◌<◌}
 use native.Mathlib.Numerals.{add-one}
 use native.Mathlib.Omega.{arith}
 use lib.ListN.{length, take, drop, get_or, length-append}
-use lib.Seq.{length-take-le, take-length, take-suc, take_at, drop_at, drop-drop}
+use lib.Seq.{length-take-le, take-suc, take_at, drop_at, drop-drop}
 use lib.Ieee.{Float, nan}
 use Rattle.wire.specs.Wire.{real_bytes, bytes_of, bits_of}
 use Rattle.wire.proofs.Numbers.{length_bytes_of}
@@ -55,6 +55,3 @@ module _ {from : List Float} {s₀ : List ℕ} where
             ∙ ap (λ (x : List ℕ). x ++ drop (8 * k + 8) s₀) (sym (real_bytes_next from k (omega arith)))
             ∙ ap (λ (x : ℕ). real_bytes (take (k + 1) from) ++ drop x s₀) n;
       }
-
-  pub done : {k : ℕ} {s : List ℕ} → Encoding from s₀ k s → k ≤ length from → length from ≤ k → s ≡ real_bytes from ++ drop (8 * length from) s₀
-  done {k} c most h = let e : k ≡ length from = omega arith in rw (c.is, e, take-length from)

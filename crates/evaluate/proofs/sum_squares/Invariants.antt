@@ -4,4 +4,4 @@ use Rattle.evaluate.specs.Evaluate.{squares_step}
 use Rattle.evaluate.proofs.sum_squares.Given as goal
 
 abbrev pub invariant-loop-j : goal.invariant-loop-j
-invariant-loop-j l = Range (squares_step l.problem.setup l.problem.columns l.w l.beta l.mean) l.initial.s 0 l.problem.setup.n l.j l.s
+invariant-loop-j l = Range (squares_step l.sample.setup l.sample.columns l.w l.beta l.mean) l.initial.s 0 l.sample.setup.n l.j l.s

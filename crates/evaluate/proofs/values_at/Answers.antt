@@ -6,7 +6,7 @@ use Rattle.evaluate.proofs.values_at.Goals as goal
 pub returns : goal.returns
 unfolding values_at
 returns c =
-    let q = c.args.problem.now in
+    let q = c.args.sample.now in
     let own = rw (c.predictors-x.ensures.predictors, c.setup-u.ensures.setup) at c.predictors_of.ensures in
     let f = fitted_at q.columns.predictors q.setup.n q.setup.p c.args.i c.setup-u.ensures.shaped.rows c.requires own _ c.fitted-predicted.ensures in
     let row = rw (c.predictors-x.ensures.predictors, c.setup-u.ensures.setup) at c.design_row-row.ensures in

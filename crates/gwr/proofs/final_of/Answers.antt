@@ -1,7 +1,7 @@
 -- `gwr::final_of`: the sweep with rows, and what it ends with.
 use native.Mathlib.Omega.{arith}
 use Rattle.sweep.proofs.Sweeps.{made_few}
-use Rattle.gwr.proofs.Fits.{final_is, solves_made}
+use Rattle.gwr.proofs.Fits.{solves_made}
 use Rattle.gwr.proofs.final_of.Goals as goal
 
 pub solves-requires : goal.solves-requires
@@ -14,7 +14,3 @@ pub overflow_add-before : goal.overflow_add-before
 overflow_add-before c =
     let h = solves_made _ _ _ _ _ _ c.setup-u.ensures.shaped.sized.few c.fit_all_locations-s.ensures _ c.solves.ensures in
     omega (arith, h, c.requires.room.1)
-
-pub returns : goal.returns
-returns c =
-    final_is _ _ _ _ _ _ _ _ _ _ c.fit_all_locations-s.ensures (rw c.setup-u.ensures.setup at c.ending.ensures) c.solves.ensures c.finish_of.ensures

@@ -1,14 +1,9 @@
 -- `gwr::gwr_fit`: by what is said of the input, and by the plan.
-use mathlib.Core.Path.{sym, ap, subst, ◌∙◌}
+use mathlib.Core.Path.{sym, subst, ◌∙◌}
 use native.Mathlib.Omega.{arith}
-use Rattle.checks.proofs.Tests.{handed_on}
 use Rattle.plan.proofs.Planned.{Serves, accept_planned}
-use Rattle.gwr.proofs.Fits.{fit_is, shaped_is, posed_is, room_is, planned_is}
+use Rattle.gwr.proofs.Fits.{shaped_is, room_is}
 use Rattle.gwr.proofs.gwr_fit.Goals as goal
-
-pub returns-in_err-plan : goal.returns-in_err-plan
-returns-in_err-plan c =
-    fit_is _ _ _ _ _ _ (sym c.accept.ensures ∙ c.in_err-plan.was) (ap (λ z. (z, c.args.out.now)) (handed_on c.from_residual.ensures))
 
 pub pose-problem-requires : goal.pose-problem-requires
 pose-problem-requires c =
@@ -25,11 +20,3 @@ pub sought_of-requires : goal.sought_of-requires
 sought_of-requires c =
     let a = accept_planned _ _ _ _ (sym c.accept.ensures ∙ c.in_ok-plan.was) in
     record { room = room_is _ _ _ _ c.columns.view_is _ c.pose-problem.ensures _ a.accepted.room }
-
-pub returns-in-Settled : goal.returns-in-Settled
-returns-in-Settled c =
-    planned_is _ _ _ _ _ _ _ _ (sym c.accept.ensures ∙ c.in_ok-plan.was) c.in-Settled.is (posed_is _ _ _ _ c.columns.view_is _ c.pose-problem.ensures) c.final_of.ensures
-
-pub returns-in-Sought : goal.returns-in-Sought
-returns-in-Sought c =
-    planned_is _ _ _ _ _ _ _ _ (sym c.accept.ensures ∙ c.in_ok-plan.was) c.in-Sought.is (posed_is _ _ _ _ c.columns.view_is _ c.pose-problem.ensures) c.sought_of.ensures

@@ -1,26 +1,16 @@
 -- `gwrprint::read_input`: no more bytes than the header asks for.
 use native.Mathlib.Omega.{arith}
-use Prim.Native.Nat.{◌≤◌}
-use mathlib.Core.List.{◌++◌}
-use lib.ListN.{length, drop}
-use Rattle.gwrprint.proofs.Ends.{part_long, front_within, both_most, read_is}
+use mathlib.Core.Path.{sym}
+use lib.ListN.{drop}
+use lib.Seq.{length-take-le}
+use Rattle.gwrprint.proofs.Ends.{read_asked}
 use Rattle.gwrprint.proofs.read_input.Goals as goal
 
 pub slice_bounds-read_part-end-2 : goal.slice_bounds-read_part-end-2
-slice_bounds-read_part-end-2 c = let l = c.args.input.now in let h : 40 ≤ length l = omega arith in part_long 40 l h
-
-pub slice_bounds-asked_behind-end : goal.slice_bounds-asked_behind-end
-slice_bounds-asked_behind-end c =
-    front_within _ c.read_part-head.new.part (drop 40 c.args.input.now) c.read_part-head.ensures.within
-
-pub slice_bounds-asked_behind-end-2 : goal.slice_bounds-asked_behind-end-2
-slice_bounds-asked_behind-end-2 c =
-    let a = c.read_part-head.new.part in let b = drop 40 c.args.input.now in part_long _ (a ++ b) (front_within _ a b c.read_part-head.ensures.within)
-
-pub overflow_add-result : goal.overflow_add-result
-overflow_add-result c =
-    omega (arith, both_most c.args.input.now c.read_part-head.new.part (drop 40 c.args.input.now) c.read_part.new.part _ _ _ _ c.requires (c.read_part-head.ensures.within, c.read_part-head.ensures.long) c.asked_behind-end.ensures (c.read_part.ensures.within, c.read_part.ensures.long))
+slice_bounds-read_part-end-2 c = sym (length-take-le 40 c.args.input.now (omega arith))
 
 pub returns : goal.returns
 returns c =
-    (both_most c.args.input.now c.read_part-head.new.part (drop 40 c.args.input.now) c.read_part.new.part _ _ _ _ c.requires (c.read_part-head.ensures.within, c.read_part-head.ensures.long) c.asked_behind-end.ensures (c.read_part.ensures.within, c.read_part.ensures.long), read_is c.args.input.now c.read_part-head.new.part (drop 40 c.args.input.now) c.read_part.new.part _ _ _ _ c.requires (c.read_part-head.ensures.within, c.read_part-head.ensures.long) c.asked_behind-end.ensures (c.read_part.ensures.within, c.read_part.ensures.long) _)
+    let head = c.read_part-head in
+    let rest = c.read_part in
+    read_asked c.args.input.now head.new.part (drop 40 c.args.input.now) rest.new.part _ _ _ _ c.requires (head.ensures.within, head.ensures.long) c.asked_behind-end.ensures (rest.ensures.within, rest.ensures.long) _

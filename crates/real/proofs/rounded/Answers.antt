@@ -1,17 +1,7 @@
 -- `real::rounded` meets its contract: it works out `by_rest`, which is the nearest whole number.
-use Rattle.std.proofs.Common.{◌≡◌, ◌+◌, T, sym, ◌∙◌, subst, arith}
-use Rattle.real.proofs.Values.{above_minus_one, below_top, cut_small}
+use Rattle.std.proofs.Common.{◌≡◌, ◌+◌, T, sym, ◌∙◌, subst}
 use Rattle.real.proofs.Rounding.{by_rest, by_rest_lem}
 use Rattle.real.proofs.rounded.Goals as goal
-
-pub truncating_f64_to_u64-t-requires : goal.truncating_f64_to_u64-t-requires
-unfolding by_rest
-truncating_f64_to_u64-t-requires c =
-    record { lower_bound = above_minus_one c.args.x c.requires.positive; upper_bound = below_top c.args.x c.requires.below_2_to_32 }
-
-pub overflow_add-result : goal.overflow_add-result
-unfolding by_rest
-overflow_add-result c = omega (arith, cut_small c.args.x c.requires.below_2_to_32)
 
 pub returns-then-x-f : goal.returns-then-x-f
 unfolding by_rest

@@ -5,10 +5,6 @@ use Rattle.root.specs.Root.{root}
 use Rattle.root.proofs.Nearest.{root_is, root_end}
 use Rattle.root.proofs.sqrt_near.Goals as goal
 
-pub positive-requires : goal.positive-requires
-unfolding of_bits
-positive-requires c = record { above_zero = c.if-x.true; below_infinity = c.if-x-2.true }
-
 pub returns-then-x-2 : goal.returns-then-x-2
 unfolding of_bits
 returns-then-x-2 c = c.positive.ensures ∙ sym (root_is _ c.if-x.true c.if-x-2.true)
@@ -20,7 +16,3 @@ returns-then-x c = sym (root_end _ c.if-x.true c.if-x-2.false)
 pub returns-then-x-3 : goal.returns-then-x-3
 unfolding root of_bits div
 returns-then-x-3 c = sym (rw c.if-x-3.true)
-
-pub returns : goal.returns
-unfolding root of_bits
-returns c = sym (rw (c.if-x-3.false, c.if-x.false))

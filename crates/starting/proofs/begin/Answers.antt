@@ -11,12 +11,3 @@ pub start-requires : goal.start-requires
 start-requires c =
     let accepted = rw (← c.columns.view_is) at c.accept.ensures in
     (accept_planned (trusted_data _ _ _ _) _ _ _ (sym accepted ∙ c.in_ok-plan.was)).accepted.shaped.sized
-
-pub returns-in_err-plan : goal.returns-in_err-plan
-returns-in_err-plan c =
-    handed_on c.from_residual.ensures ∙ begin_is _ _ _ _ _ _ (sym c.accept.ensures ∙ c.in_err-plan.was) refl
-
-pub returns : goal.returns
-returns c =
-    let accepted = rw (← c.columns.view_is) at c.accept.ensures in
-    rw (← c.columns.view_is) (begin_is _ _ _ _ _ _ (sym accepted ∙ c.in_ok-plan.was) (ap Ok c.start.ensures))

@@ -4,22 +4,12 @@ use mathlib.Core.Path.{refl, sym, ap, ◌∙◌}
 use native.Mathlib.Omega.{arith}
 use Rattle.std.specs.Prelude.{None}
 use Rattle.real.specs.Fold.{range}
-use Rattle.real.proofs.Fold.{none, more, done}
+use Rattle.real.proofs.Fold.{more}
 use Rattle.setup.specs.declared.Setup.{Setup}
 use Rattle.sweep.specs.declared.Sweep.{Sweep}
 use Rattle.sweep.specs.Sweep.{after_solve, visit, fit_all_locations}
 use Rattle.sweep.proofs.Sweeps.{after_found, visit_going, stopped_rest}
 use Rattle.sweep.proofs.fit_all_locations.Goals as goal
-
-pub loop-i-init : goal.loop-i-init
-loop-i-init c =
-    (none (omega arith), ap (λ (s : Sweep). s.location) c.new-sweep.ensures, refl)
-
-pub next-sweep-requires : goal.next-sweep-requires
-next-sweep-requires c =
-    let n = ap (λ (u : Setup). u.n) c.setup-u.ensures.setup in
-    let added = ap (λ (s : Sweep). s.location) c.add.ensures in
-    omega (arith, n, added, c.loop-i.invariant.1, c.setup-u.ensures.shaped.sized.few)
 
 pub loop-i-preserved : goal.loop-i-preserved
 loop-i-preserved c =
@@ -40,13 +30,4 @@ returns-in-Err c =
     let v = visit_going _ _ _ _ _ _ _ _ _ _ refl c.solve_location-outcome.ensures wrote (sym (ap (after_solve c.loop-i.sweep) c.in-Err.is)) in
     let r = more c.loop-i.invariant.0 (omega (arith, n)) v in
     stopped_rest _ _ _ _ _ _ _ _ _ r.high refl r.is
-    ∙ ap (λ (s : Sweep). range (visit a.rows q.setup q.columns a.b) 0 q.setup.n (record { stopped = None; sweep = s }, a.out.now)) c.new-sweep.ensures
-
-pub returns : goal.returns
-unfolding fit_all_locations
-returns c =
-    let a = c.args in
-    let q = a.problem.now in
-    let n = ap (λ (u : Setup). u.n) c.setup-u.ensures.setup in
-    done c.loop-i.invariant.0 (omega (arith, n))
     ∙ ap (λ (s : Sweep). range (visit a.rows q.setup q.columns a.b) 0 q.setup.n (record { stopped = None; sweep = s }, a.out.now)) c.new-sweep.ensures

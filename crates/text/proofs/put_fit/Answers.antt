@@ -6,11 +6,6 @@ use Rattle.text.proofs.Lines.{and_then, text_is}
 use Rattle.text.proofs.Parts.{summary_end}
 use Rattle.text.proofs.put_fit.Goals as goal
 
-pub rows-requires : goal.rows-requires
-rows-requires c =
-    let line = c.summary.ensures.written in
-    (omega (arith, line.long, summary_end _ _ _ line), search rules, search rules, search rules)
-
 pub returns : goal.returns
 unfolding listing
 returns c =

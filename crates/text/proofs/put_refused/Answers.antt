@@ -1,13 +1,8 @@
 -- `text::put_refused`: the line of a refusal.
 use borrow.Author.Rules.{rules}
-use native.Mathlib.Omega.{arith}
 use Rattle.text.proofs.Lines.{text_is}
-use Rattle.text.proofs.Parts.{count_end, refused_line_lem}
+use Rattle.text.proofs.Parts.{refused_line_lem}
 use Rattle.text.proofs.put_refused.Goals as goal
-
-pub byte-requires : goal.byte-requires
-byte-requires c =
-    let w = c.word.ensures.written in let n = c.count.ensures.written in omega (arith, w.stop, w.long, n.long, count_end _ n)
 
 pub returns : goal.returns
 returns c =

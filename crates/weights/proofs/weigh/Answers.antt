@@ -23,10 +23,10 @@ over_zeros u d east north b w same places trusted many zeros e = e ∙ rw (same,
 pub weigh_within-requires-clause-reach : goal.weigh_within-requires-clause-reach
 weigh_within-requires-clause-reach c = search (rules, reaches)
 
-pub returns-then-is_nan : goal.returns-then-is_nan
-returns-then-is_nan c =
-    over_zeros _ _ _ _ _ _ c.setup.ensures.setup c.coords-coords.ensures.coords c.trusts-trusts.ensures.trusts c.trusts-trusts.ensures.one_each c.requires.zeros c.weigh_all.ensures
-
-pub returns-else-is_nan : goal.returns-else-is_nan
-returns-else-is_nan c =
+pub returns-in-Some : goal.returns-in-Some
+returns-in-Some c =
     over_zeros _ _ _ _ _ _ c.setup.ensures.setup c.coords-coords.ensures.coords c.trusts-trusts.ensures.trusts c.trusts-trusts.ensures.one_each c.requires.zeros c.weigh_within.ensures
+
+pub returns-in-None : goal.returns-in-None
+returns-in-None c =
+    over_zeros _ _ _ _ _ _ c.setup.ensures.setup c.coords-coords.ensures.coords c.trusts-trusts.ensures.trusts c.trusts-trusts.ensures.one_each c.requires.zeros c.weigh_all.ensures

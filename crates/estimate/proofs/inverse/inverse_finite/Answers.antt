@@ -5,13 +5,10 @@ use mathlib.Core.Bool.{Bool, ◌&&◌}
 use mathlib.Core.List.{[]}
 use native.Mathlib.Omega.{arith}
 use lib.ListN.{length, get_or}
-use Rattle.real.proofs.Fold.{none, more, done}
-use Rattle.estimate.specs.Inverse.{all_step, all_below, inverse_finite}
+use Rattle.real.proofs.Fold.{more}
+use Rattle.estimate.specs.Inverse.{all_step}
 use Rattle.estimate.proofs.Products.{row_tested}
 use Rattle.estimate.proofs.inverse.inverse_finite.Goals as goal
-
-pub loop-p-init : goal.loop-p-init
-loop-p-init c = none (search rules)
 
 pub loop-p-preserved : goal.loop-p-preserved
 unfolding all_step
@@ -20,7 +17,3 @@ loop-p-preserved c =
     let cells : length row ≡ 16 = search rules in
     more c.loop-p.invariant (search rules)
     (ap (λ (b : Bool). c.loop-p.good && b) (c.all_finite-good.ensures ∙ row_tested c.args.a.now c.args.m c.loop-p.p _ row refl (omega arith) (omega (arith, cells, c.requires))))
-
-pub returns : goal.returns
-unfolding all_below inverse_finite
-returns c = done c.loop-p.invariant (search rules)

@@ -3,12 +3,9 @@ use native.Mathlib.Omega.{arith}
 use Rattle.setup.specs.declared.Setup.{Setup}
 use mathlib.Core.Path.{ap, ◌∙◌}
 use Rattle.normal.proofs.DesignCells.{observed}
-use Rattle.real.proofs.Fold.{none, more, done}
-use Rattle.normal.specs.Equations.{normal_step, equations_of}
+use Rattle.real.proofs.Fold.{more}
+use Rattle.normal.specs.Equations.{normal_step}
 use Rattle.normal.proofs.equations.equations_of.Goals as goal
-
-pub loop-j-init : goal.loop-j-init
-loop-j-init c = none (omega arith)
 
 -- left out
 pub loop-j-preserved-then-w-j : goal.loop-j-preserved-then-w-j
@@ -20,11 +17,7 @@ pub loop-j-preserved : goal.loop-j-preserved
 unfolding normal_step
 loop-j-preserved c =
     let n = ap (λ (u : Setup). u.n) c.setup-u.ensures.setup in
-    let q = c.args.problem.now in
+    let q = c.args.sample.now in
     let own = rw (c.predictors-x.ensures.predictors, c.setup-u.ensures.setup) at c.predictors_of.ensures in
     more c.loop-j.invariant (omega (arith, n))
     (observed q.columns.predictors q.setup.n q.setup.p c.loop-j.j c.setup-u.ensures.shaped.rows (omega (arith, n)) own _ _ _ c.observe.ensures ∙ rw (c.if-w-j.false, c.responses-y.ensures))
-
-pub returns : goal.returns
-unfolding equations_of
-returns c = let n = ap (λ (u : Setup). u.n) c.setup-u.ensures.setup in done c.loop-j.invariant (omega (arith, n))

@@ -4,4 +4,4 @@ use Rattle.normal.specs.Equations.{normal_step}
 use Rattle.normal.proofs.equations.equations_of.Given as goal
 
 abbrev pub invariant-loop-j : goal.invariant-loop-j
-invariant-loop-j l = Range (normal_step l.problem.setup l.problem.columns l.w) l.initial.e 0 l.problem.setup.n l.j l.e
+invariant-loop-j l = Range (normal_step l.sample.setup l.sample.columns l.w) l.initial.e 0 l.sample.setup.n l.j l.e

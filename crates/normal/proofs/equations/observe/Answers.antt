@@ -1,22 +1,11 @@
 -- `normal::equations::observe` meets its contract: the first row apart, then the loop is the fold of `observe_step` from row 1 on.
 use borrow.Author.Rules.{rules}
-use mathlib.Core.Path.{sym, ◌∙◌}
-use lib.ListN.{length}
-use Rattle.real.proofs.Fold.{none, more, done}
-use Rattle.normal.specs.Equations.{observe_step, observe}
-use Rattle.normal.proofs.DesignCells.{own_next, observe_front}
+use Rattle.real.proofs.Fold.{more}
+use Rattle.normal.specs.Equations.{observe_step}
+use Rattle.normal.proofs.DesignCells.{own_next}
 use Rattle.normal.proofs.equations.observe.Goals as goal
-
-pub loop-q-init : goal.loop-q-init
-loop-q-init c = none (search rules)
 
 pub loop-q-preserved : goal.loop-q-preserved
 unfolding observe_step
 loop-q-preserved c =
     more c.loop-q.invariant (search rules) (rw (c.add_row.ensures, own_next c.args.own.now c.loop-q.q (search rules) (search rules)))
-
-pub returns : goal.returns
-unfolding observe
-returns c =
-    let s = c.args in
-    done c.loop-q.invariant (search rules) ∙ sym (observe_front s.own.now (length s.own.now) 0 s.w s.y s.e.now ∙ rw (← c.add_first_row.ensures))

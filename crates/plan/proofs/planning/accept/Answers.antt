@@ -1,8 +1,6 @@
 -- `plan::accept` meets its contract, case by case.
 use mathlib.Core.Path.{sym, ◌∙◌}
 use Rattle.setup.specs.Data.{trusted_data}
-use Rattle.checks.proofs.Tests.{handed_on}
-use Rattle.plan.proofs.Planned.{accept_refused, accept_passed}
 use Rattle.input.proofs.Accepted.{input_accepted}
 use Rattle.plan.proofs.planning.accept.Goals as goal
 
@@ -10,12 +8,3 @@ pub plan_options-requires : goal.plan_options-requires
 plan_options-requires c =
     let checked = rw (← c.columns.view_is) at c.check_input.ensures in
     let a = (input_accepted (trusted_data _ _ _ _) _ _ _ (sym checked ∙ c.in_ok-check_input.was)).shaped in record { lengths = a.places; sized = a.sized }
-
-pub returns-in_err-check_input : goal.returns-in_err-check_input
-returns-in_err-check_input c =
-    handed_on c.from_residual.ensures ∙ accept_refused _ _ _ _ (sym c.check_input.ensures ∙ c.in_err-check_input.was)
-
-pub returns : goal.returns
-returns c =
-    let checked = rw (← c.columns.view_is) at c.check_input.ensures in
-    rw (← c.columns.view_is) (accept_passed _ _ _ _ (sym checked ∙ c.in_ok-check_input.was) c.plan_options.ensures)

@@ -1,22 +1,8 @@
 -- `search::memory::trial_of`: an entry in use that has the key holds the trial, and a new one is put into its entry.
-use mathlib.Core.Path.{sym, subst, subst⁻¹}
+use mathlib.Core.Path.{sym, subst}
 use lib.Dec.{T}
-use Rattle.setup.specs.Bandwidth.{Usable}
-use Rattle.bounds.proofs.Usable.{bandwidth_usable}
-use Rattle.search.proofs.Memos.{point_is, recalled, kept}
+use Rattle.search.proofs.Memos.{kept}
 use Rattle.search.proofs.memory.trial_of.Goals as goal
-
-pub returns-then-held-key-clause-value : goal.returns-then-held-key-clause-value
-returns-then-held-key-clause-value c =
-    recalled _ _ _ (subst T (sym c.well_formed.1.0.1) tt) _ _ (rw c.setup-u.ensures.setup at c.bandwidth_at-b.ensures) c.key_of-key.ensures c.requires.remembered _ _ c.in-Some.is c.if-held-key.true
-
-pub evaluate_aicc-trial-requires : goal.evaluate_aicc-trial-requires
-evaluate_aicc-trial-requires c =
-    record { usable = subst⁻¹ Usable (rw c.setup-u.ensures.setup at c.bandwidth_at-b.ensures) (bandwidth_usable _ c.setup-u.ensures.shaped.sized _) }
-
-pub returns-clause-value : goal.returns-clause-value
-returns-clause-value c =
-    point_is _ _ _ (subst T (sym c.well_formed.1.0.1) tt) _ _ (rw c.setup-u.ensures.setup at c.bandwidth_at-b.ensures) c.key_of-key.ensures _ c.evaluate_aicc-trial.ensures
 
 pub returns-clause-still_remembered : goal.returns-clause-still_remembered
 returns-clause-still_remembered c =

@@ -1,4 +1,4 @@
--- `search::seeking::golden_section_min`: the search is the fold of its rounds up to r, and the entries in use are right.
+-- `search::seeking::golden_section_min`: the search is the fold of its rounds so far, and the entries in use are right.
 use borrow.Author.Rules.{rules}
 use mathlib.Core.Path.{ap, subst⁻¹, ◌∙◌}
 use native.Mathlib.Omega.{arith}
@@ -14,8 +14,8 @@ use Rattle.search.proofs.seeking.golden_section_min.Goals as goal
 pub opened_of-s-requires : goal.opened_of-s-requires
 opened_of-s-requires c = record { few = c.requires; remembered = forgotten _ _ }
 
-pub loop-r-init : goal.loop-r-init
-loop-r-init c =
+pub loop-round-init : goal.loop-round-init
+loop-round-init c =
     let a = c.args in
     let p = a.problem.now in
     let opened = c.opened_of-s.ensures.value ∙ ap (opened_of p.setup p.columns) c.start-g.ensures in
@@ -23,18 +23,18 @@ loop-r-init c =
 
 pub round_of-s-requires : goal.round_of-s-requires
 round_of-s-requires c =
-    record { few = c.requires; remembered = c.loop-r.invariant.2; going = c.loop-r.invariant.1; few_solves = rounds_made _ _ c.requires _ _ _ c.loop-r.invariant.0.is c.loop-r.invariant.0.high }
+    record { few = c.requires; remembered = c.loop-round.invariant.2; going = c.loop-round.invariant.1; few_solves = rounds_made _ _ c.requires _ _ _ c.loop-round.invariant.0.is c.loop-round.invariant.0.high }
 
-pub loop-r-preserved : goal.loop-r-preserved
-loop-r-preserved c =
-    (more c.loop-r.invariant.0 (search rules) c.round_of-s.ensures.value, c.if-s.false, c.round_of-s.ensures.still_remembered)
+pub loop-round-preserved : goal.loop-round-preserved
+loop-round-preserved c =
+    (more c.loop-round.invariant.0 (search rules) (c.round_of-s.ensures.value _), c.if-s.false, c.round_of-s.ensures.still_remembered)
 
 pub returns-then-s : goal.returns-then-s
 unfolding golden_of
 returns-then-s c =
-    let r = more c.loop-r.invariant.0 (search rules) c.round_of-s.ensures.value in
+    let r = more c.loop-round.invariant.0 (search rules) (c.round_of-s.ensures.value _) in
     over_rest _ _ _ _ _ r.high c.if-s.true r.is
 
 pub returns : goal.returns
 unfolding golden_of
-returns c = done c.loop-r.invariant.0 (search rules)
+returns c = done c.loop-round.invariant.0 (search rules)

@@ -1,7 +1,6 @@
 -- `search::trials::evaluate_aicc`: the sweep's score and solves.
 use native.Mathlib.Omega.{arith}
 use Rattle.sweep.proofs.Sweeps.{made_few}
-use Rattle.search.proofs.Solves.{trial_is}
 use Rattle.search.proofs.trials.evaluate_aicc.Goals as goal
 
 pub solves-requires : goal.solves-requires
@@ -9,7 +8,3 @@ solves-requires c =
     let few = c.setup-u.ensures.shaped.sized.few in
     let h = made_few _ _ _ _ _ _ _ c.fit_all_locations-s.ensures in
     omega (arith, h.0, few)
-
-pub returns : goal.returns
-returns c =
-    trial_is _ _ _ _ _ _ _ _ c.fit_all_locations-s.ensures (rw c.setup-u.ensures.setup at c.ending.ensures) c.score_of.ensures c.solves.ensures

@@ -1,7 +1,7 @@
 -- `Text::numbers`: one number more.
 use borrow.Author.Rules.{rules}
 use mathlib.Core.Path.{refl, ◌∙◌}
-use Rattle.text.proofs.Rows.{none_yet, number_more, numbers_all}
+use Rattle.text.proofs.Rows.{none_yet, number_more}
 use Rattle.text.proofs.Text.numbers.Goals as goal
 
 pub loop-k-init : goal.loop-k-init
@@ -14,6 +14,3 @@ loop-k-preserved c =
       same_bytes = c.bits.ensures.same_bytes ∙ l.same_bytes;
       written = number_more l.written (search rules) (search rules) c.load.ensures c.bits.ensures.written;
     }
-
-pub returns-clause-written : goal.returns-clause-written
-returns-clause-written c = numbers_all c.loop-k.invariant.written (search rules)

@@ -1,6 +1,6 @@
 -- `weights::near::weigh_within` meets its contract: its loop is the fold of `weigh_step`.
 use borrow.Author.Rules.{rules}
-use Rattle.real.proofs.Fold.{none, more, done}
+use Rattle.real.proofs.Fold.{none, more}
 use Rattle.kernel.proofs.Reaches.{distance_is}
 use Rattle.weights.specs.Weights.{weigh_step}
 use Rattle.weights.proofs.near.weigh_within.Goals as goal
@@ -12,6 +12,3 @@ pub loop-j-preserved : goal.loop-j-preserved
 unfolding weigh_step
 loop-j-preserved c =
     more c.loop-j.invariant (search rules) (rw (c.weight_within.ensures, c.squares-s.ensures, c.at.ensures, distance_is))
-
-pub returns : goal.returns
-returns c = done c.loop-j.invariant (search rules)

@@ -1,8 +1,0 @@
--- `kernel::place::Place::squares` meets its contract.
-use mathlib.Core.Path.{refl}
-use Rattle.kernel.specs.Weight.{squares_of}
-use Rattle.kernel.proofs.place.Place.squares.Goals as goal
-
-pub returns : goal.returns
-unfolding squares_of
-returns c = refl

@@ -1,3 +1,0 @@
-pub mod Turning
-pub mod Walking
-pub mod Judging
