@@ -30,18 +30,13 @@ impl GwrKernel {
     pub fn weight(self, d: f64, b: f64) -> f64
         ensures { result ≡ weight_of self d b }
     {
-        let usable = real::is_finite(b);
-        if usable {
-            if b <= 0.0 {
-                return degenerate(d);
-            }
-            match self {
-                GwrKernel::Gaussian => gaussian(d, b),
-                GwrKernel::Bisquare => bisquare(d, b),
-                GwrKernel::Exponential => elementary::exp(-d / b),
-            }
-        } else {
-            degenerate(d)
+        if !real::is_finite(b) || b <= 0.0 {
+            return degenerate(d);
+        }
+        match self {
+            GwrKernel::Gaussian => gaussian(d, b),
+            GwrKernel::Bisquare => bisquare(d, b),
+            GwrKernel::Exponential => elementary::exp(-d / b),
         }
     }
 }
