@@ -87,7 +87,6 @@ fn bisquare(d: f64, b: f64) -> f64
 }
 
 // The public weight call: every distance but a negative one and NaN has a weight.
-#[tactic(auto, unfolding(crate::specs::Weight::weighed))]
 pub fn weigh_distance(k: GwrKernel, d: f64, b: f64) -> Option<f64>
     ensures { result ≡ weighed k d b }
 {
