@@ -16,7 +16,7 @@ pub fn greatest_distance(coords: &[f64]) -> f64
 {
     let n = coords.len() / 2;
     let mut most = 0.0;
-    // By numbers: pairs i < j. Chunks of two would each have to be made a `Place`, so that they are no plainer.
+    // By numbers: pairs i < j. Chunks of two would each have to be made a `Place`, so they are no plainer.
     for i in 0..n {
         let here = Place::at(coords, i);
         for j in i + 1..n {

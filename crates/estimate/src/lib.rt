@@ -1,7 +1,7 @@
 // The coefficients of a weighted fit at a place, from the weights of the observations seen from there.
 //
 // Weights, coefficients and matrices have fixed room, since there is no heap: n weights, m coefficients and m rows count.
-// Weights come beside the sample and their sum: a struct of the two would be made for two calls of one solve.
+// Weights come beside the sample and their sum: a struct of weights and sum would be made for two calls of one solve.
 #![tactic(auto)]
 
 ghost use Rattle.std.specs.Prelude.{◌≡◌, ◌≤◌};

@@ -1,7 +1,7 @@
 // What a fit says of the location that it was made for: prediction, residual, local R² and leverage.
 //
 // Weights, coefficients and matrices have fixed room, since there is no heap: n weights, m coefficients and m rows count.
-// Weights come beside the sample and their sum: a struct of the two would be made for two calls of one solve.
+// Weights come beside the sample and their sum: a struct of weights and sum would be made for two calls of one solve.
 #![tactic(auto)]
 
 ghost use Rattle.std.specs.Prelude.{◌≡◌, ◌+◌, ◌≤◌, ◌<◌, length};
@@ -43,7 +43,7 @@ fn hat_diagonal(inverse: &[[f64; 16]; 8], row: [f64; 8], own: f64, m: usize) -> 
     ensures { result ≡ hat_diagonal inverse.now row own m }
 {
     let mut quad = 0.0;
-    // An index: each inner product copies the design row, which a loop over its cells would have lent.
+    // An index (tried: each inner product copies the design row, which the checker does not cover while a loop has its cells lent).
     for p in 0..m {
         quad += row[p] * estimate::inverse_times(inverse, p, row, m);
     }
@@ -74,7 +74,8 @@ fn sum_squares(sample: &Sample<'_>, w: &[f64; 512], beta: [f64; 8], mean: f64) -
     let u = sample.setup();
     let x = sample.predictors();
     let y = sample.responses();
-    // An index: with no predictors (p = 0) `chunks_exact(p)` would panic, so that observations cannot be zipped.
+    // An index: with no predictors (p = 0) `chunks_exact(p)` would panic, so they are found by j; weights and responses zipped and
+    // numbered beside that would be no plainer.
     for j in 0..u.n {
         if w[j] == 0.0 {
             continue;

@@ -73,7 +73,7 @@ fn run(j: Job, problem: &Problem<'_>, out: &mut [f64], allowance: u32) -> Turned
     ensures { (result, out.new) ≡ run_of j problem.now.columns out.old allowance }
 {
     let mut k = j;
-    // Counted, not indexed: the answer says how many steps were made.
+    // Counted, not indexed: `Turned` says how many steps were made.
     for made in 0..allowance {
         if k.stage.is_ended() {
             return tell(k, made);

@@ -65,7 +65,6 @@ fn degenerate(d: f64) -> f64
     if d == 0.0 { 1.0 } else { 0.0 }
 }
 
-#[tactic(auto, unfolding(crate::specs::Published::gaussian_formula))]
 fn gaussian(d: f64, b: f64) -> f64
     ensures { result ≡ gaussian_formula rounded expv d b }
 {

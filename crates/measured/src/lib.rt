@@ -3,7 +3,7 @@
 // rust/bench links it.
 #![tactic(auto)]
 
-ghost use Rattle.std.specs.Prelude.{◌≡◌, ◌/◌, map, ◌*◌, ◌≤◌, length, get_or};
+ghost use Rattle.std.specs.Prelude.{◌≡◌, ◌/◌, map, ◌≤◌, length, get_or};
 ghost use Rattle.real.specs.Reals.{zero64};
 ghost use Rattle.root.specs.Root.{root};
 ghost use Rattle.elementary.specs.Exp.{expv};
@@ -59,7 +59,7 @@ fn play(j: Job, columns: &Columns<'_>, out: &mut [f64], allowance: u32, turns: u
     ensures { (result, out.new) ≡ play_of columns.now allowance turns (j, out.old) }
 {
     let mut k = j;
-    // Nothing is indexed. A loop, since a proof knows nothing of what the closure of a fold wrote to the output.
+    // Nothing is indexed; the proof alone reads the number. A loop, since a proof knows nothing of what the closure of a fold wrote to the output.
     for _i in 0..turns {
         k = job::turn(k, columns, &mut *out, allowance).job;
     }
@@ -167,9 +167,10 @@ pub extern "C" fn zescolumba_walk(
     if n <= 512 && m <= n {
         let place = Place { east, north };
         walks(coords, place, own_by(own, n), m, k, at, seen);
-        return 1;
+        1
+    } else {
+        0
     }
-    0
 }
 
 // The criterion of the C interface's number, which no byte call has; none is refused.

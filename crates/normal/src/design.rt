@@ -1,4 +1,4 @@
-// Design rows, of any predictors that are lent.
+// Design rows, of any predictors that are lent: a method of `Sample` would ask it for its sizes at each observation.
 ghost use Rattle.std.specs.Prelude.{◌≡◌, ◌+◌, ◌*◌, ◌≤◌, length};
 ghost use Rattle.normal.specs.Design.{predictors_of, design_row};
 

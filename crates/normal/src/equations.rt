@@ -20,8 +20,8 @@ fn add_row(row: &mut [f64; 8], wx: f64, own: &[f64], from: usize)
     requires { (length own.now ≤ 7) × (from ≤ length own.now) }
     ensures { row.new ≡ add_row wx (design_of own.now) (from + 1) (length own.now + 1) row.old }
 {
-    // An index: of cells that a zip with `own` changes a proof knows nothing afterwards, and numbered from `from` on they would
-    // stand at other numbers than their predictors.
+    // An index (tried: of cells that a zip with `own` changes a proof knows nothing afterwards, and of an enumeration that skips it has
+    // no number).
     for q in from..own.len() {
         row[q + 1] += wx * own[q];
     }
@@ -66,8 +66,8 @@ pub fn equations_of(sample: &Sample<'_>, w: &[f64; 512]) -> Equations
         a: [[0.0; 8]; 8],
         rhs: [0.0; 8],
     };
-    // An index: with no predictors (p = 0) `chunks_exact(p)` would panic, so that observations cannot be zipped. `sum_squares` of
-    // `evaluate` walks likewise; they share these lines alone.
+    // An index: with no predictors (p = 0) `chunks_exact(p)` would panic, so they are found by j; weights and responses zipped and
+    // numbered beside that would be no plainer. `sum_squares` of `evaluate` walks likewise; they share these lines alone.
     for j in 0..u.n {
         if w[j] == 0.0 {
             continue;

@@ -1,7 +1,7 @@
 // What makes the weights fast: no root beyond a kernel's reach; and where there is no reach all distances are guessed, then settled,
-// then weighed by the kernel, then by their trusts, each in a loop of its own: a guess waits for divisions, and a call of exp leaves
-// no number in its register, and little room beside it. Coordinates and trusts come one by one, since nothing else of the problem is
-// read, and a struct of the two would be made for one call.
+// then weighed by the kernel, then by their trusts, each in a loop of its own: a guess waits for divisions, and a call of exp takes
+// what a loop keeps in registers. Coordinates and trusts come one by one, since nothing else of the problem is read, and a struct of
+// the two would be made for one call.
 ghost use Rattle.std.specs.Prelude.{◌≡◌, ◌*◌, ◌≤◌, length};
 ghost use Rattle.kernel.specs.Reach.{Reach};
 ghost use Rattle.weights.specs.Near.{near_distance, near_weights, kernel_over, Filled};
