@@ -16,7 +16,7 @@ pub fn greatest_distance(coords: &[f64]) -> f64
 {
     let n = coords.len() / 2;
     let mut most = 0.0;
-    // By numbers: pairs i < j, whose places are read by them.
+    // By numbers: pairs i < j. Chunks of two would each have to be made a `Place`, so they are no plainer.
     for i in 0..n {
         let here = Place::at(coords, i);
         for j in i + 1..n {
@@ -41,7 +41,7 @@ pub fn least_distance(hi: f64, n: usize) -> f64
 pub fn usable_distance(b: f64) -> bool
     ensures { result ≡ usable_distance b }
 {
-    b.is_finite() & (b > 0.0)
+    b.is_finite() && b > 0.0
 }
 
 // The least count that a search tries: max(p + 1, 2).

@@ -38,7 +38,8 @@ fn store_summary(s: &mut [u8], v: Summary)
     wire::store(&mut *s, 16, v.solves);
 }
 
-// The fit of decoded numbers, with `rows` as its output. Rows and summary go out as bytes, unless the input was refused.
+// The fit of decoded numbers, with `rows` as its output. Rows and summary go out as bytes, unless the input was refused, to the
+// two slices that document 01's call lends.
 #[tactic(auto, using(crate::proofs::Answers::rows_fit, crate::proofs::Answers::rows_within))]
 fn fitted_bytes(
     columns: &Columns<'_>,

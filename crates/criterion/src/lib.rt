@@ -69,7 +69,8 @@ fn criterion_of(criterion: GwrCriterion, nf: f64, sigma: f64, trace: f64) -> f64
     aicc_formula(nf, floored(sigma), trace, d)
 }
 
-// Whether the degrees of freedom are within 2^-52 of none. Fewer than none are only where guarded; no number is never.
+// Whether the degrees of freedom are within 2^-52 of none. A negative number of them counts as none only where guarded; NaN
+// never does.
 #[tactic(auto, unfolding(crate::specs::Aicc::exhausted))]
 fn is_exhausted(criterion: GwrCriterion, d: f64) -> bool
     ensures { result ≡ exhausted criterion d }

@@ -29,9 +29,9 @@ pub fn inverse_finite(a: &[[f64; 16]; 8], m: usize) -> bool
     ensures { result ≡ inverse_finite a.now m }
 {
     let mut good = true;
-    // An index: of a row that an iterator gives a proof does not know the length.
+    // An index (tried: a proof does not know the length of a row that an iterator gives).
     for p in 0..m {
-        good = good & real::all_finite(&a[p][m..2 * m]);
+        good &= real::all_finite(&a[p][m..2 * m]);
     }
     good
 }

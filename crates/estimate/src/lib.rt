@@ -1,7 +1,7 @@
 // The coefficients of a weighted fit at a place, from the weights of the observations seen from there.
 //
 // Weights, coefficients and matrices have fixed room, since there is no heap: n weights, m coefficients and m rows count.
-// Weights come beside the sample and their sum, as the definitions take them: no clause says that the sum is theirs.
+// Weights come beside the sample and their sum: a struct of weights and sum would be made for two calls of one solve.
 #![tactic(auto)]
 
 ghost use Rattle.std.specs.Prelude.{◌≡◌, ◌≤◌};
@@ -24,15 +24,15 @@ pub struct Coefficients {
 }
 
 // The coefficients: the inverse times the right-hand side.
-#[tactic(auto, using(real::proofs::Fold::none, real::proofs::Fold::done), unfolding(crate::specs::Estimate::coefficient_step, crate::specs::Estimate::coefficients_of))]
+#[tactic(auto, using(real::proofs::Fold::done), unfolding(crate::specs::Estimate::coefficient_step, crate::specs::Estimate::coefficients_of))]
 fn coefficients_of(a: &[[f64; 16]; 8], rhs: [f64; 8], m: usize) -> [f64; 8]
     requires { m ≤ 8 }
     ensures { result ≡ coefficients_of a.now rhs m }
 {
     let mut beta = [0.0; 8];
-    // An index: row p of the inverse gives coefficient p. `array::from_fn` would ask of each of the 8 whether it counts.
-    for p in 0..m {
-        beta[p] = inverse::inverse_times(a, p, rhs, m);
+    // `array::from_fn` would ask of each of the 8 whether it counts.
+    for (p, b) in beta[..m].iter_mut().enumerate() {
+        *b = inverse::inverse_times(a, p, rhs, m);
     }
     beta
 }

@@ -1,7 +1,7 @@
 // What a fit says of the location that it was made for: prediction, residual, local R² and leverage.
 //
-// Weights have fixed room, since there is no heap: those of the n observations count. They
-// come beside the sample and their sum, as the definitions take them: no clause says that the sum is theirs.
+// Weights, coefficients and matrices have fixed room, since there is no heap: n weights, m coefficients and m rows count.
+// Weights come beside the sample and their sum: a struct of weights and sum would be made for two calls of one solve.
 #![tactic(auto)]
 
 ghost use Rattle.std.specs.Prelude.{◌≡◌, ◌+◌, ◌≤◌, ◌<◌, length};
@@ -43,9 +43,9 @@ fn hat_diagonal(inverse: &[[f64; 16]; 8], row: [f64; 8], own: f64, m: usize) -> 
     ensures { result ≡ hat_diagonal inverse.now row own m }
 {
     let mut quad = 0.0;
-    // An index: the row of the inverse goes by it, and an enumeration of the design row's cells would have it too.
+    // An index (tried: each inner product copies the design row, which the checker does not cover while a loop has its cells lent).
     for p in 0..m {
-        quad = quad + row[p] * estimate::inverse_times(inverse, p, row, m);
+        quad += row[p] * estimate::inverse_times(inverse, p, row, m);
     }
     own * quad
 }
@@ -63,7 +63,7 @@ fn add_squares(s: Squares, w: f64, y: f64, mean: f64, fitted: f64) -> Squares
 }
 
 // Both sums of squares over observations in order, leaving out weight 0.
-#[tactic(auto, using(real::proofs::Fold::none, crate::proofs::Sums::fitted_at, real::proofs::Fold::done), unfolding(crate::specs::Evaluate::squares_step, crate::specs::Evaluate::sum_squares))]
+#[tactic(auto, using(real::proofs::Fold::none, normal::proofs::DesignCells::own_within, crate::proofs::Sums::fitted_at, real::proofs::Fold::done), unfolding(crate::specs::Evaluate::squares_step, crate::specs::Evaluate::sum_squares))]
 fn sum_squares(sample: &Sample<'_>, w: &[f64; 512], beta: [f64; 8], mean: f64) -> Squares
     ensures { result ≡ sum_squares sample.now.setup sample.now.columns w.now beta mean }
 {
@@ -74,12 +74,13 @@ fn sum_squares(sample: &Sample<'_>, w: &[f64; 512], beta: [f64; 8], mean: f64) -
     let u = sample.setup();
     let x = sample.predictors();
     let y = sample.responses();
-    // An index, for the predictors: chunks of none cannot be zipped.
+    // An index: with no predictors (p = 0) `chunks_exact(p)` would panic, so they are found by j; weights and responses zipped and
+    // numbered beside that would be no plainer.
     for j in 0..u.n {
         if w[j] == 0.0 {
             continue;
         }
-        let own = normal::predictors_of(x, u.n, u.p, j);
+        let own = normal::predictors_of(x, u.p, j);
         s = add_squares(s, w[j], y[j], mean, fitted(&beta, own));
     }
     s
@@ -108,6 +109,7 @@ fn local_r_squared(sample: &Sample<'_>, w: &[f64; 512], beta: [f64; 8], sum: f64
 }
 
 // What the fit with these coefficients says of location i.
+#[tactic(auto, using(normal::proofs::DesignCells::own_within))]
 pub fn values_at(
     sample: &Sample<'_>,
     w: &[f64; 512],
@@ -121,8 +123,8 @@ pub fn values_at(
     let u = sample.setup();
     let x = sample.predictors();
     let y = sample.responses();
-    let row = normal::design_row(x, u.n, u.p, i);
-    let predicted = fitted(&fit.beta, normal::predictors_of(x, u.n, u.p, i));
+    let row = normal::design_row(x, u.p, i);
+    let predicted = fitted(&fit.beta, normal::predictors_of(x, u.p, i));
     Values {
         predicted,
         residual: y[i] - predicted,

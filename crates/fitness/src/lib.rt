@@ -32,7 +32,7 @@ fn kinds_fit(kind: GwrBandwidth, bandwidth: GwrBandwidth) -> bool
 fn in_rounds(made: usize) -> bool
     ensures { result ≡ (leb 2 made && leb made 101) }
 {
-    (2 <= made) & (made <= 101)
+    2 <= made && made <= 101
 }
 
 // Whether so many trials can have been made at this stage.

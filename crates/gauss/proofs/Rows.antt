@@ -5,7 +5,6 @@ use mathlib.Core.Bool.{Bool, true, false, cond}
 use mathlib.Core.List.{[], ◌++◌}
 use native.Mathlib.Omega.{arith}
 use lib.ListN.{length, take, drop, get_or, set, take-append-drop}
-use lib.Ieee.{Float, nan}
 use Rattle.std.proofs.lemmas.List.{get_or_append_left, set-append_left}
 use lib.Seq.{set-get_or, get_or-set_other}
 use lib.Dec.{eqb}
@@ -24,19 +23,19 @@ pub record Clearing (a₀ : Matrix) (i n m : ℕ) (by : Row) (k : ℕ) (a : Matr
   pub turned : Range (clear_step i m) a₀ 0 n k a
   pub stays : get_or a i [] ≡ by
 
-pub clearing : {a₀ a : Matrix} {i n m k : ℕ} {by x : Row} → Clearing a₀ i n m by k a → k < n → x ≡ clear_row k i by m (get_or a k []) → Clearing a₀ i n m by (k + 1) (set a k x)
+next : {a₀ a : Matrix} {i n m k : ℕ} {by x : Row} → Clearing a₀ i n m by k a → k < n → x ≡ clear_row k i by m (get_or a k []) → Clearing a₀ i n m by (k + 1) (set a k x)
 unfolding clear_step clear_row
-clearing {a₀} {a} {i} {n} {m} {k} {by} {x} c l h =
+next {a₀} {a} {i} {n} {m} {k} {by} {x} c l h =
     let s : set a k x ≡ clear_step i m k a = ap (set a k) (h ∙ ap (λ (b : Row). clear_row k i b m (get_or a k [])) (sym c.stays)) in
     record {
       turned = more c.turned l s;
       stays = ap (λ (z : Matrix). get_or z i []) s ∙ other a i k _ (eqb k i) refl ∙ c.stays;
     }
 
--- ---- the first m cells of a row, changed one by one, with the others behind them
-pub untouched : (f : ℕ → Row → Row) (m : ℕ) (row : Row) → Range f row 0 m 0 (take m row ++ drop m row)
-untouched f m row = rw (take-append-drop m row) (none (omega arith))
+-- the same of the first n rows, with the others behind them
+pub uncleared : (i n m : ℕ) (a : Matrix) → Clearing a i n m (get_or a i []) 0 (take n a ++ drop n a)
+uncleared i n m a = rw (take-append-drop n a) (record { turned = none (omega arith); stays = refl })
 
-pub cell_set : (g : Float → Float) (cells rest : Row) (j : ℕ) → j < length cells
-    → set cells j (g (get_or cells j nan)) ++ rest ≡ set (cells ++ rest) j (g (get_or (cells ++ rest) j nan))
-cell_set g cells rest j h = rw (get_or_append_left cells rest nan j h) (sym (set-append_left cells rest j _ h))
+pub clearing : {a₀ : Matrix} (rows rest : Matrix) {i n m k : ℕ} {by x : Row} → Clearing a₀ i n m by k (rows ++ rest) → k < length rows → k < n → x ≡ clear_row k i by m (get_or rows k []) → Clearing a₀ i n m by (k + 1) (set rows k x ++ rest)
+clearing {a₀} rows rest {i} {n} {m} {k} {by} {x} c within l h =
+    rw (← set-append_left rows rest k x within) (next c l (h ∙ ap (clear_row k i by m) (sym (get_or_append_left rows rest [] k within))))

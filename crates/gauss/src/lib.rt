@@ -46,25 +46,25 @@ fn find_pivot(a: &[[f64; 16]; 8], i: usize, n: usize) -> Pivot
 }
 
 // The first m cells, each divided by v.
-#[tactic(auto, using(crate::proofs::Rows::untouched, crate::proofs::Rows::cell_set, real::proofs::Fold::done), unfolding(crate::specs::Gauss::div_step, crate::specs::Gauss::div_row))]
+#[tactic(auto, using(real::proofs::Fronts::untouched, real::proofs::Fold::done), unfolding(crate::specs::Gauss::div_step, crate::specs::Gauss::div_row))]
 fn div_row(row: &mut [f64; 16], v: f64, m: usize)
     requires { m ≤ 16 }
     ensures { row.new ≡ div_row v m row.old }
 {
     for x in row[..m].iter_mut() {
-        *x = *x / v;
+        *x /= v;
     }
 }
 
 // The first m cells, each less v times the cell of `by`.
-#[tactic(auto, using(real::proofs::Fold::none, real::proofs::Fold::done), unfolding(crate::specs::Gauss::less_step, crate::specs::Gauss::less_row))]
+#[tactic(auto, using(real::proofs::Fronts::untouched, real::proofs::Fold::done), unfolding(crate::specs::Gauss::less_step, crate::specs::Gauss::less_row))]
 fn less_row(row: &mut [f64; 16], v: f64, by: &[f64; 16], m: usize)
     requires { m ≤ 16 }
     ensures { row.new ≡ less_row v by.now m row.old }
 {
-    // An index: `by` is read at it too, and of cells that a zip changes a proof knows nothing afterwards.
-    for j in 0..m {
-        row[j] = row[j] - v * by[j];
+    // Numbered, since of cells that a zip with `by` changes a proof knows nothing afterwards.
+    for (j, x) in row[..m].iter_mut().enumerate() {
+        *x -= v * by[j];
     }
 }
 
@@ -85,15 +85,15 @@ fn clear_row(row: &mut [f64; 16], by: &[f64; 16], k: usize, i: usize, m: usize)
 }
 
 // Column i cleared in every row but row i, which stays: one copy of it serves every row.
-#[tactic(auto, using(real::proofs::Fold::none, crate::proofs::Rows::clearing, real::proofs::Fold::done), unfolding(crate::specs::Gauss::cleared))]
+#[tactic(auto, using(real::proofs::Fold::done), unfolding(crate::specs::Gauss::cleared))]
 fn clear(a: &mut [[f64; 16]; 8], i: usize, n: usize, m: usize)
     requires { (i < 8) × (n ≤ 8) × (m ≤ 16) }
     ensures { a.new ≡ cleared i n m a.old }
 {
     let by = a[i];
-    // An index: row i, told from the others by its number, stays.
-    for k in 0..n {
-        clear_row(&mut a[k], &by, k, i, m);
+    // Numbered, since row i, told from the others by its number, stays.
+    for (k, row) in a[..n].iter_mut().enumerate() {
+        clear_row(row, &by, k, i, m);
     }
 }
 

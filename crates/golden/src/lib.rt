@@ -5,8 +5,8 @@ ghost use Rattle.std.specs.Prelude.{◌≡◌};
 ghost use Rattle.golden.specs.Golden.{no_bracket, start_of, first_of, second_of, goes_left, aim_of, improved_of, left_of, right_of, narrow_of, tight_of};
 
 // The bracket a b, its inner points c d, its width h, the scores of c and d, and the best point tried with its score. What is not
-// tried yet is zero, and no Option: whoever searches tries both points before anything reads a score. Points
-// and scores stand one by one, as 000's search names them.
+// tried yet is zero, and no Option: whoever searches tries both points before anything reads a score. Points and scores stand one
+// by one, as 000's search names them.
 #[derive(Clone, Copy)]
 pub struct Bracket {
     pub a: f64,

@@ -1,8 +1,10 @@
 // Reads a job from standard input and prints its fit.
-// Proved: the first `len` bytes of `text` are `printed` of the first `got` of `input`, whichever these are (`listing::print_input`), and these are no more than are asked for (`read_input`).
-// Of the bytes that are asked for of a standard input that is what is printed of all of it (crates/listing/proofs/Reading.antt `handed_on`).
-// Not proved, since no contract of the kit says which bytes are read or written: that `read` gives those of standard input in order, and that `write_all` writes those lent to it.
-// That is the kit's and the C library's, and is executed, on the stored jobs and on every prefix of one (scripts/prefixes.sh).
+// Proved: the first `len` bytes of `text` are `printed` of the first `got` of `input`, whichever these are (`listing::print_input`), and
+// these are no more than are asked for (`read_input`). What is printed of the bytes asked for is what is printed of all of a standard
+// input (crates/listing/proofs/Reading.antt `handed_on`).
+// Not proved, since no contract of the kit says which bytes are read or written: that `read` gives those of standard input in order,
+// and that `write_all` writes those lent to it. That is the kit's and the C library's, and is executed, on the stored jobs and on every
+// prefix of one (scripts/prefixes.sh).
 #![tactic(auto)]
 
 ghost use Rattle.std.specs.Prelude.{◌≤◌, ◌≡◌, length, take};

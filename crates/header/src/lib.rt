@@ -4,9 +4,8 @@
 
 ghost use Rattle.std.specs.Prelude.{◌≡◌, ◌+◌, ◌*◌, ◌≤◌, ◌<◌, length};
 ghost use Rattle.checks.specs.Judge.{judge};
-ghost use Rattle.header.specs.Headers.{sized_header, header_of, parts_len};
+ghost use Rattle.header.specs.Headers.{asked, sized_header, header_of, parts_len};
 ghost use Rattle.header.specs.Cuts.{cut_tests};
-ghost use Rattle.header.specs.Headers.{asked};
 
 use refusal::Refusal;
 

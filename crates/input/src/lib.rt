@@ -15,7 +15,7 @@ use real::{all_finite, all_in_unit};
 use refusal::Refusal;
 use setup::{Columns, GwrBandwidth, GwrOptions, Setup};
 
-// Refusals 1 to 7: the lengths of the slices and the number of predictors, as the list of tests takes them.
+// Refusals 1 to 7. The lengths one by one: a struct of them would be made for this one call.
 #[tactic(auto, unfolding(crate::specs::Checks::shape_tests, checks::specs::Judge::judge))]
 fn check_shape(coords: usize, x: usize, y: usize, trusts: usize, p: usize) -> Result<(), Refusal>
     ensures { result ≡ judge (shape_tests coords x y trusts p) }
@@ -68,8 +68,9 @@ pub fn check_values(columns: &Columns<'_>) -> Result<(), Refusal>
     Ok(())
 }
 
-// Whether an observation's numbers are finite and its trust lies from 0 to 1. A zero that is multiplied by a number is NaN where that is
-// not finite, and NaN is at most nothing. Easting and northing one by one: no place is made of what is only multiplied.
+// Whether an observation's numbers are finite and its trust lies from 0 to 1. v - v is zero, or NaN where v is not finite; zero times a
+// number that is not finite is NaN; and no comparison with NaN holds. Easting and northing one by one: no place is made of what is
+// only multiplied.
 #[tactic(auto, using(crate::proofs::Observations::good_is))]
 fn observation_good(v: f64, east: f64, north: f64, trust: f64) -> bool
     ensures { result ≡ (finite v && finite east && finite north && in_unit trust) }
@@ -78,7 +79,7 @@ fn observation_good(v: f64, east: f64, north: f64, trust: f64) -> bool
     (z <= trust) & (trust <= 1.0)
 }
 
-// Whether all observations are good. Of slices, not of the columns, whose value may have no trusts.
+// Whether all observations are good. Slices one by one: `Columns` is known to a contract as a `Data`, which may have no trusts.
 fn observations_good(coords: &[f64], y: &[f64], trust: &[f64]) -> bool
     requires { (length coords.now ≡ 2 * length y.now) × (length trust.now ≡ length y.now) }
     ensures { result ≡ (all_finite y.now && all_finite coords.now && all_in_unit trust.now) }
@@ -143,9 +144,10 @@ pub fn lengths_fit(columns: &Columns<'_>, u: Setup) -> bool
     requires { Sized u }
     ensures { result ≡ lengths_fit u columns.now }
 {
-    let answers = (columns.responses.len() == u.n) & (columns.trusts.len() == u.n);
-    let rest = (columns.predictors.len() == u.n * u.p) & answers;
-    (columns.coords.len() == 2 * u.n) & rest
+    columns.coords.len() == 2 * u.n
+        && columns.predictors.len() == u.n * u.p
+        && columns.responses.len() == u.n
+        && columns.trusts.len() == u.n
 }
 
 // Whether a distance is given that cannot be used.

@@ -1,4 +1,4 @@
-// A fit in turns: each turn makes so many steps of it as it is allowed.
+// A fit in turns: each turn makes as many steps of it as it is allowed.
 // Limits of sizes, and room for rows, are clauses: docs/DECISIONS.md says why.
 #![tactic(auto)]
 

@@ -73,7 +73,7 @@ fn run(j: Job, problem: &Problem<'_>, out: &mut [f64], allowance: u32) -> Turned
     ensures { (result, out.new) ≡ run_of j problem.now.columns out.old allowance }
 {
     let mut k = j;
-    // Counted, not indexed: how many steps were made is told.
+    // Counted, not indexed: `Turned` says how many steps were made.
     for made in 0..allowance {
         if k.stage.is_ended() {
             return tell(k, made);
@@ -83,7 +83,7 @@ fn run(j: Job, problem: &Problem<'_>, out: &mut [f64], allowance: u32) -> Turned
     tell(k, allowance)
 }
 
-// A turn: refused, or so many steps as the allowance and the end allow.
+// A turn: refused, or as many steps as the allowance and the end allow.
 #[tactic(auto, using(crate::proofs::Turning::turn_passed), unfolding(crate::specs::Turn::turn_of, checks::specs::Judge::ruled))]
 pub fn turn(j: Job, columns: &Columns<'_>, out: &mut [f64], allowance: u32) -> Turned
     ensures { (result, out.new) ≡ turn_of j columns.now out.old allowance }

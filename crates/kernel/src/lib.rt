@@ -30,18 +30,13 @@ impl GwrKernel {
     pub fn weight(self, d: f64, b: f64) -> f64
         ensures { result ≡ weight_of self d b }
     {
-        let usable = real::is_finite(b);
-        if usable {
-            if b <= 0.0 {
-                return degenerate(d);
-            }
-            match self {
-                GwrKernel::Gaussian => gaussian(d, b),
-                GwrKernel::Bisquare => bisquare(d, b),
-                GwrKernel::Exponential => elementary::exp(-d / b),
-            }
-        } else {
-            degenerate(d)
+        if !real::is_finite(b) || b <= 0.0 {
+            return degenerate(d);
+        }
+        match self {
+            GwrKernel::Gaussian => gaussian(d, b),
+            GwrKernel::Bisquare => bisquare(d, b),
+            GwrKernel::Exponential => elementary::exp(-d / b),
         }
     }
 }
@@ -70,7 +65,6 @@ fn degenerate(d: f64) -> f64
     if d == 0.0 { 1.0 } else { 0.0 }
 }
 
-#[tactic(auto, unfolding(crate::specs::Published::gaussian_formula))]
 fn gaussian(d: f64, b: f64) -> f64
     ensures { result ≡ gaussian_formula rounded expv d b }
 {
@@ -92,7 +86,6 @@ fn bisquare(d: f64, b: f64) -> f64
 }
 
 // The public weight call: every distance but a negative one and NaN has a weight.
-#[tactic(auto, unfolding(crate::specs::Weight::weighed))]
 pub fn weigh_distance(k: GwrKernel, d: f64, b: f64) -> Option<f64>
     ensures { result ≡ weighed k d b }
 {

@@ -24,7 +24,6 @@ impl Place {
     }
 
     // The sum of the squares of the distance to another place.
-    #[tactic(auto, unfolding(crate::specs::Weight::squares_of))]
     pub fn squares(self, other: Place) -> f64
         ensures { result ≡ squares_of self.east self.north other.east other.north }
     {
@@ -34,7 +33,6 @@ impl Place {
     }
 
     // The distance to another place.
-    #[tactic(auto, using(crate::proofs::Reaches::distance_is))]
     pub fn distance(self, other: Place) -> f64
         ensures { result ≡ distance_of self.east self.north other.east other.north }
     {

@@ -34,14 +34,9 @@ impl GwrKernel {
 fn bisquare_reach(b: f64) -> Option<f64>
     ensures { result ≡ bisquare_reach b }
 {
-    let c = b * b;
-    let usable = real::is_finite(b);
-    if usable {
-        if b <= 0.0 {
-            return None;
-        }
-        if root::sqrt(c) >= b { Some(c) } else { None }
-    } else {
-        None
+    if !real::is_finite(b) || b <= 0.0 {
+        return None;
     }
+    let c = b * b;
+    if root::sqrt(c) >= b { Some(c) } else { None }
 }

@@ -13,8 +13,8 @@ ghost use Rattle.listing.specs.Printed.{printed};
 use header::Head;
 use refusal::Refusal;
 
-// The text of a fit that answered so, with n rows of `width` numbers. The text is a slice with at least the
-// room of the longest listing: an array's type would ask for exactly that length.
+// The text of a fit that answered so, with n rows of `width` numbers, from the two slices that the fit call wrote. The text is a slice
+// with at least the room of the longest listing: an array's type would ask for exactly that length.
 #[tactic(auto, using(refusal::proofs::Range::numbered, crate::proofs::Texts::number_small), unfolding(crate::specs::Jobs::answer_text))]
 fn print_answer(
     answer: Result<(), Refusal>,

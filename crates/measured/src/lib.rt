@@ -3,7 +3,7 @@
 // rust/bench links it.
 #![tactic(auto)]
 
-ghost use Rattle.std.specs.Prelude.{◌≡◌, map, ◌*◌, ◌≤◌, length, get_or};
+ghost use Rattle.std.specs.Prelude.{◌≡◌, ◌/◌, map, ◌≤◌, length, get_or};
 ghost use Rattle.real.specs.Reals.{zero64};
 ghost use Rattle.root.specs.Root.{root};
 ghost use Rattle.elementary.specs.Exp.{expv};
@@ -59,8 +59,8 @@ fn play(j: Job, columns: &Columns<'_>, out: &mut [f64], allowance: u32, turns: u
     ensures { (result, out.new) ≡ play_of columns.now allowance turns (j, out.old) }
 {
     let mut k = j;
-    // Nothing is indexed. A loop, since a proof knows nothing of what the closure of a fold wrote to the output.
-    for i in 0..turns {
+    // Nothing is indexed; the proof alone reads the number. A loop, since a proof knows nothing of what the closure of a fold wrote to the output.
+    for _i in 0..turns {
         k = job::turn(k, columns, &mut *out, allowance).job;
     }
     k
@@ -125,12 +125,10 @@ fn see(walk: &Walker, k: usize, at: usize, seen: &mut [f64; 5])
     seen[4] = sum_at(walk, at);
 }
 
-// A walk from the place over the first m of n pantries, asked for k there, and then over the others, asked again.
-// n stands beside the coordinates, as in the definition.
+// A walk from the place over the first m pantries, asked for k there, and then over the others, asked again.
 #[tactic(auto, using(neighbours::proofs::Walks::walk_few), unfolding(crate::specs::Walks::walks_of))]
 fn walks(
     coords: &[f64],
-    n: usize,
     place: Place,
     own: Option<usize>,
     m: usize,
@@ -138,9 +136,10 @@ fn walks(
     at: usize,
     seen: &mut [f64; 5],
 )
-    requires { (2 * n ≤ length coords.now) × (n ≤ 512) × (m ≤ n) }
-    ensures { seen.new ≡ walks_of coords.now n place.east place.north own m k at seen.old }
+    requires { (length coords.now / 2 ≤ 512) × (m ≤ length coords.now / 2) }
+    ensures { seen.new ≡ walks_of coords.now (length coords.now / 2) place.east place.north own m k at seen.old }
 {
+    let n = coords.len() / 2;
     let mut walk = Walker::new();
     walk.walk_on(coords, 0, m, place, own);
     seen[0] = walk.found_by(k);
@@ -165,14 +164,13 @@ pub extern "C" fn zescolumba_walk(
     ensures { (result, seen.new) ≡ asked_of coords.now east north own m k at seen.old }
 {
     let n = coords.len() / 2;
-    if n <= 512 {
-        if m <= n {
-            let place = Place { east, north };
-            walks(coords, n, place, own_by(own, n), m, k, at, seen);
-            return 1;
-        }
+    if n <= 512 && m <= n {
+        let place = Place { east, north };
+        walks(coords, place, own_by(own, n), m, k, at, seen);
+        1
+    } else {
+        0
     }
-    0
 }
 
 // The criterion of the C interface's number, which no byte call has; none is refused.

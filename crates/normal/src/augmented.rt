@@ -12,30 +12,30 @@ fn mirrored_cell(a: &[[f64; 8]; 8], p: usize, q: usize) -> f64
 }
 
 // Row p of the augmented matrix: row p of the symmetric matrix, and the unit row.
-#[tactic(auto, using(real::proofs::Fold::none, real::proofs::Fold::done), unfolding(crate::specs::Augmented::mirror_step, crate::specs::Augmented::augmented_row))]
+#[tactic(auto, using(real::proofs::Fold::done), unfolding(crate::specs::Augmented::mirror_step, crate::specs::Augmented::augmented_row))]
 fn augmented_row(a: &[[f64; 8]; 8], p: usize, m: usize) -> [f64; 16]
     requires { (p < m) × (m ≤ 8) }
     ensures { result ≡ augmented_row a.now m p }
 {
     let mut r = [0.0; 16];
-    // An index: a cell is a row's and a column's. `array::from_fn` would ask of each of the 16 whether it counts.
-    for q in 0..m {
-        r[q] = mirrored_cell(a, p, q);
+    // `array::from_fn` would ask of each of the 16 whether it counts.
+    for (q, cell) in r[..m].iter_mut().enumerate() {
+        *cell = mirrored_cell(a, p, q);
     }
     r[m + p] = 1.0;
     r
 }
 
 // The augmented matrix [A | I] of m rows.
-#[tactic(auto, using(real::proofs::Fold::none, real::proofs::Fold::done), unfolding(crate::specs::Augmented::augment_step, crate::specs::Augmented::augmented_matrix))]
+#[tactic(auto, using(real::proofs::Fold::done), unfolding(crate::specs::Augmented::augment_step, crate::specs::Augmented::augmented_matrix))]
 pub fn augmented_matrix(a: &[[f64; 8]; 8], m: usize) -> [[f64; 16]; 8]
     requires { m ≤ 8 }
     ensures { result ≡ augmented_matrix a.now m }
 {
     let mut r = [[0.0; 16]; 8];
-    // An index: row p has its 1 in column m + p. `array::from_fn` would ask of each of the 8 whether it counts.
-    for p in 0..m {
-        r[p] = augmented_row(a, p, m);
+    // `array::from_fn` would ask of each of the 8 whether it counts.
+    for (p, row) in r[..m].iter_mut().enumerate() {
+        *row = augmented_row(a, p, m);
     }
     r
 }

@@ -20,9 +20,10 @@ fn add_row(row: &mut [f64; 8], wx: f64, own: &[f64], from: usize)
     requires { (length own.now ≤ 7) × (from ≤ length own.now) }
     ensures { row.new ≡ add_row wx (design_of own.now) (from + 1) (length own.now + 1) row.old }
 {
-    // An index: `own` is read at it too, and of cells that a zip changes a proof knows nothing afterwards.
+    // An index (tried: of cells that a zip with `own` changes a proof knows nothing afterwards, and of an enumeration that skips it has
+    // no number).
     for q in from..own.len() {
-        row[q + 1] = row[q + 1] + wx * own[q];
+        row[q + 1] += wx * own[q];
     }
 }
 
@@ -32,7 +33,7 @@ fn add_first_row(row: &mut [f64; 8], wx: f64, own: &[f64])
     requires { length own.now ≤ 7 }
     ensures { row.new ≡ add_row wx (design_of own.now) 0 (length own.now + 1) row.old }
 {
-    row[0] = row[0] + wx * 1.0;
+    row[0] += wx * 1.0;
     add_row(&mut *row, wx, own, 0);
 }
 
@@ -44,17 +45,17 @@ fn observe(e: &mut Equations, w: f64, y: f64, own: &[f64])
 {
     // 000 multiplies by the 1 of the design row too.
     let first = w * 1.0;
-    e.rhs[0] = e.rhs[0] + first * y;
+    e.rhs[0] += first * y;
     add_first_row(&mut e.a[0], first, own);
     for (q, v) in own.iter().enumerate() {
         let wx = w * *v;
-        e.rhs[q + 1] = e.rhs[q + 1] + wx * y;
+        e.rhs[q + 1] += wx * y;
         add_row(&mut e.a[q + 1], wx, own, q);
     }
 }
 
 // The weighted normal equations over observations in order, leaving out weight 0.
-#[tactic(auto, using(real::proofs::Fold::none, crate::proofs::DesignCells::observed, real::proofs::Fold::done), unfolding(crate::specs::Equations::normal_step, crate::specs::Equations::equations_of))]
+#[tactic(auto, using(real::proofs::Fold::none, crate::proofs::DesignCells::own_within, crate::proofs::DesignCells::observed, real::proofs::Fold::done), unfolding(crate::specs::Equations::normal_step, crate::specs::Equations::equations_of))]
 pub fn equations_of(sample: &Sample<'_>, w: &[f64; 512]) -> Equations
     ensures { result ≡ equations_of sample.now.setup sample.now.columns w.now }
 {
@@ -65,12 +66,13 @@ pub fn equations_of(sample: &Sample<'_>, w: &[f64; 512]) -> Equations
         a: [[0.0; 8]; 8],
         rhs: [0.0; 8],
     };
-    // An index, for the predictors: chunks of none cannot be zipped. `sum_squares` of `evaluate` walks likewise; what is shared is these lines alone.
+    // An index: with no predictors (p = 0) `chunks_exact(p)` would panic, so they are found by j; weights and responses zipped and
+    // numbered beside that would be no plainer. `sum_squares` of `evaluate` walks likewise; they share these lines alone.
     for j in 0..u.n {
         if w[j] == 0.0 {
             continue;
         }
-        observe(&mut e, w[j], y[j], predictors_of(x, u.n, u.p, j));
+        observe(&mut e, w[j], y[j], predictors_of(x, u.p, j));
     }
     e
 }

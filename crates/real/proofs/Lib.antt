@@ -1,4 +1,5 @@
 pub mod Fold
+pub mod Fronts
 pub mod SignedOrder
 pub mod Counts
 pub mod Values

@@ -16,7 +16,7 @@ pub fn from_count(n: usize) -> f64
     f64::from(n as u32)
 }
 
-// Rust's `x.is_finite()`, promised in the word that the definitions use.
+// Rust's `x.is_finite()`, promised in the word that the definitions use; the must-fail edits of infinities are of this body.
 #[tactic(auto, using(crate::proofs::Std::finite_same))]
 pub fn is_finite(x: f64) -> bool
     ensures { result ≡ finite x }
@@ -55,7 +55,7 @@ fn rest_finite(s: &[f64]) -> bool
     z == 0.0
 }
 
-// Whether every number of s is finite: fours and what is left, of a few numbers no fours.
+// Whether every number of s is finite: four at a time, then what is left; fewer than 8 one by one.
 #[tactic(auto, using(crate::proofs::Finite::all_of_parts))]
 pub fn all_finite(s: &[f64]) -> bool
     ensures { result ≡ all_finite s.now }
@@ -75,7 +75,7 @@ pub fn in_unit(x: f64) -> bool
     (0.0 <= x) & (x <= 1.0)
 }
 
-// Whether every number of s lies from 0 to 1.
+// Whether every number of s lies from 0 to 1. A flag, and no `all`, which would branch at each number.
 #[tactic(auto, using(crate::proofs::Finite::more, crate::proofs::Finite::done))]
 pub fn all_in_unit(s: &[f64]) -> bool
     ensures { result ≡ all_in_unit s.now }
@@ -88,7 +88,7 @@ pub fn all_in_unit(s: &[f64]) -> bool
 }
 
 // The size of x: Rust's `f64::abs`. Where x <= 0.0 the difference is exact, and it is +0 for a zero of either sign. The library's
-// branches on the sign, and a walk down a column of `gauss` by it takes three times as long.
+// branches on the sign, and a walk down a column of `gauss` by it took three times as long as by this.
 #[tactic(auto, using(crate::proofs::Values::size_below, crate::proofs::Values::size_above))]
 pub fn abs(x: f64) -> f64
     ensures { result ≡ magnitude x }
@@ -113,7 +113,7 @@ pub fn min(a: f64, b: f64) -> f64
     if b < a { b } else { a }
 }
 
-// Rust's `x.clamp(0.0, 1.0)`: NaN stays NaN, and -0 stays -0.
+// Rust's `x.clamp(0.0, 1.0)`, promised in the word that the definitions use: NaN stays NaN, and -0 stays -0.
 #[tactic(auto, unfolding(crate::specs::Reals::clamp_unit))]
 pub fn clamp_unit(x: f64) -> f64
     ensures { result ≡ clamp_unit x }

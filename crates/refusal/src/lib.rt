@@ -38,6 +38,8 @@ pub enum Refusal {
 }
 
 impl Refusal {
+    // The C interface has numbers. A match, and no discriminants with `as u32`: equal ones would not compile, and must-fail edits give
+    // two refusals one number.
     pub fn number(self) -> u32
         ensures { result ≡ refusal_number self }
     {
@@ -78,7 +80,7 @@ impl From<Refusal> for u32 {
     }
 }
 
-// What is wrong, in the words of README's table.
+// What is wrong, in short.
 impl fmt::Display for Refusal {
     fn fmt<W: fmt::Write>(&self, f: &mut fmt::Formatter<W>) -> fmt::Result {
         f.write_str(match self {

@@ -3,7 +3,7 @@
 // A record: the byte lengths of coordinates, predictors, responses, output and summary; the numbers of predictors, kernel and kind;
 // the bandwidth; the refusal's number; the group of the comparison that the job is drawn from (8 bytes each). Then coordinates,
 // predictors and responses, and output and summary as they are after the call; before it every byte of them is A5. Each part has a
-// length that its buffer below has room for: 513 places, what 512 pantries with 7 predictors need, and some bytes more.
+// length that there is room for below: 513 places, what 512 pantries with 7 predictors need, and some bytes more.
 // Group 0 is of the weight call, with its distance in the place of the number of predictors.
 #![tactic(auto)]
 
@@ -21,7 +21,7 @@ struct Tally {
     agreed: u64,
 }
 
-// The byte lengths of a record's parts, none above that of the buffer for it.
+// The byte lengths of a record's parts, none above the room for it.
 #[derive(Clone, Copy)]
 struct Lengths {
     coords: usize,

@@ -75,8 +75,8 @@ pub fn check_bytes(coords: usize, x: usize, y: usize, p: u64) -> Result<(), Refu
 }
 
 // The number of an answer, for the C interface: 0 where nothing is refused. No two refusals share one (refusal/proofs/Distinct
-// `number_tells`), so it tells the answer (proofs/Answers `answer_tells`). `Finish::number` is the same
-// of an Option, since a finish has its summary in both cases.
+// `number_tells`), so it tells the answer (proofs/Answers `answer_tells`). `Finish::number` is the same of an Option, since a finish
+// has its summary in both cases.
 pub fn answer_number(answer: Result<(), Refusal>) -> u32
     ensures { result ≡ answer_number answer }
 {

@@ -19,8 +19,8 @@ fn digits(a: u64) -> Root
     let mut q = 0u64;
     let mut rem = 0u64;
     let mut c = a;
-    // Counted: so many digits, nothing is indexed.
-    for i in 0..53u64 {
+    // Counted: so many digits, nothing is indexed; the proof alone reads which.
+    for _i in 0..53u64 {
         let next = rem * 4 + c / 0x10_0000_0000_0000;
         c = c % 0x10_0000_0000_0000 * 4;
         let t = q * 4 + 1;

@@ -47,10 +47,8 @@ fn settle(a: u64, g: u64) -> u64
     let r = excess(a, g);
     let up = u64::from(0x100_0000_0000_0000 + g < r);
     let down = u64::from(r + g < 0x100_0000_0000_0001);
-    if 0x100_0000_0000_0002 < r + 3 * g {
-        if r <= 0x100_0000_0000_0002 + 3 * g {
-            return g + up - down;
-        }
+    if 0x100_0000_0000_0002 < r + 3 * g && r <= 0x100_0000_0000_0002 + 3 * g {
+        return g + up - down;
     }
     plain(a)
 }

@@ -9,7 +9,8 @@ use super::{Optimum, Search, Tried};
 use golden::Bracket;
 use setup::Problem;
 
-// The bracket's two inner points tried. That observations are few is the problem's, and only a call of `setup` would tell a proof so.
+// The bracket's two inner points tried. That n is at most 512 is the problem's invariant, which a proof learns only where
+// `setup` or `coords` is called.
 #[tactic(auto, using(crate::proofs::Solves::trial_made), unfolding(crate::specs::Search::opened_of))]
 fn opened_of(problem: &Problem<'_>, g: Bracket, tried: &mut [Option<Tried>; 102]) -> Search
     requires few { problem.now.setup.n ≤ 512 }
@@ -56,8 +57,8 @@ fn golden_section_min(problem: &Problem<'_>, lo: f64, hi: f64) -> Search
     let mut tried = [None; 102];
     let g = Bracket::start(lo, hi);
     let mut s = opened_of(problem, g, &mut tried);
-    // Counted, not indexed: a hundred rounds at most, and the count bounds the solves.
-    for round in 0..100usize {
+    // Counted, not indexed: a hundred rounds at most, and the count, which the proof alone reads, bounds the solves.
+    for _round in 0..100usize {
         s = round_of(s, problem, &mut tried);
         if s.over {
             return s;

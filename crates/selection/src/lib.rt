@@ -7,7 +7,7 @@ ghost use Rattle.std.specs.Float.Ieee.{le, lt};
 ghost use Rattle.selection.specs.Kth.{is_kth, kth_smallest};
 
 // How many of s pass the test, by any p that says what it answers. A sum, since `filter(..).count()` branches at each number, which
-// takes three times as long.
+// took three times as long.
 fn count<F: Fn(f64) -> bool>(s: &[f64], test: F) -> usize
     requires few { length s.now < 2 ^ 32 }
     requires test { F.IsAlwaysCallable test }
@@ -131,9 +131,9 @@ fn each(s: &[f64], m: usize, otherwise: f64) -> f64
         .fold(otherwise, |v, x| if is_kth(s, m, *x) { *x } else { v })
 }
 
-// The m-th smallest of s, `otherwise` where they are fewer, which is no `Option`'s None: found by brackets, which end at about
-// `otherwise` where that is the greatest. Numbers that are equal keep a bracket from having one number only, so it is judged after every 16 cuts. Where the
-// brackets find none (some are infinite or NaN, or many differ by next to nothing), each number is judged.
+// The m-th smallest of s, or `otherwise` where they are fewer than m. No Option: `otherwise`, as a rule the greatest of s, is also the
+// top of the first bracket. Numbers that are equal keep a bracket from having one number only, so it is judged after every 16 cuts.
+// Where the brackets find none (some are infinite or NaN, or many differ by next to nothing), each number is judged.
 #[tactic(auto, using(crate::proofs::Counts::selected, crate::proofs::Counts::selected_few))]
 pub fn select(s: &[f64], m: usize, otherwise: f64) -> f64
     requires { length s.now < 2 ^ 32 }
@@ -144,7 +144,7 @@ pub fn select(s: &[f64], m: usize, otherwise: f64) -> f64
     }
     let mut b = whole(s.len(), otherwise);
     // Counted: so many times, ended by the first that is found.
-    for t in 0..8u64 {
+    for _ in 0..8 {
         b = narrow(s, m, b);
         let v = greatest_below(s, b.hi);
         if is_kth(s, m, v) {

@@ -1,7 +1,8 @@
 // What a job is: its bandwidth, its options, and its sizes. None of these changes while it is worked.
 //
-// No type but `Sample` and `Problem` says that sizes fit, and none that a bandwidth is usable: a bandwidth or a size that is handed over may be anything, and is refused with its number. Behind
-// the checks what is known of them is a clause: `Setup` is a part of the record, which may be unfit.
+// No type but `Sample` and `Problem` says that sizes fit, and none that a bandwidth is usable: a bandwidth or a size that is handed
+// over may be anything, and is refused with its number. Behind the checks what is known of them is a clause: `Setup` is a part of the
+// record, which may be unfit.
 #![tactic(auto)]
 
 ghost use Rattle.std.specs.Prelude.{◌≡◌};

@@ -50,7 +50,7 @@ impl<'a> Model for Sample<'a> {
 }
 
 impl<'a> Sample<'a> {
-    // The sample of a setup, of which the columns have the lengths. One by one, since `Columns` have trusts.
+    // The sample of a setup whose lengths the columns have. One by one, since `Columns` have trusts.
     pub fn pose(
         setup: Setup,
         coords: &'a [f64],
@@ -119,7 +119,7 @@ impl<'a> Model for Problem<'a> {
 }
 
 impl<'a> Problem<'a> {
-    // The problem of a setup, of which the data have the lengths.
+    // The problem of a setup whose lengths the data have.
     pub fn pose(setup: Setup, lent: &Columns<'a>) -> Self
         requires { Shaped setup lent.now }
         ensures { result ≡ record { setup = setup; columns = lent.now } }

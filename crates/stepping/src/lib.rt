@@ -157,7 +157,7 @@ impl Job {
         ensures { result ≡ solved_job self sweep }
     {
         self.sweep = sweep;
-        self.solves = self.solves + 1;
+        self.solves += 1;
         self
     }
 

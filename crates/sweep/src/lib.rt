@@ -37,8 +37,8 @@ impl Sweep {
     pub fn add(mut self, v: Values) -> Self
         ensures { result ≡ add_values self v }
     {
-        self.trace = self.trace + v.leverage;
-        self.squares = self.squares + v.residual * v.residual;
+        self.trace += v.leverage;
+        self.squares += v.residual * v.residual;
         self
     }
 
@@ -47,7 +47,7 @@ impl Sweep {
         requires { self.location < 512 }
         ensures { result ≡ next_location self }
     {
-        self.location = self.location + 1;
+        self.location += 1;
         self
     }
 }
@@ -82,6 +82,7 @@ impl Swept {
 
 // Row i, where rows are written and the location was solved. Whether they are is told beside the output: no contract can name what an
 // Option of a lent slice holds after the call.
+#[tactic(auto, using(crate::proofs::Sweeps::row_room))]
 pub fn write_row(out: &mut [f64], rows: bool, u: Setup, i: usize, outcome: Result<Solved, Refusal>)
     requires sizes { (u.n ≤ 512) × (u.p ≤ 7) × (i < u.n) }
     requires room { RoomFor rows u (length out.old) }
@@ -89,7 +90,7 @@ pub fn write_row(out: &mut [f64], rows: bool, u: Setup, i: usize, outcome: Resul
 {
     if rows {
         if let Ok(solved) = outcome {
-            row::put_row(out, u.n, u.p + 1, i, solved.beta, solved.values);
+            row::put_row(out, u.p + 1, i, solved.beta, solved.values);
         }
     }
 }

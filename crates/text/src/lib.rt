@@ -148,7 +148,8 @@ impl Text<'_> {
     }
 }
 
-// A refusal's line; answers where the text ends. The number: that is all that a line has of a refusal.
+// A refusal's line; answers where the text ends. By the number: any below 1000000 may be handed over, and a `Refusal` would ask more
+// of callers.
 #[tactic(auto, using(crate::proofs::Parts::count_end))]
 pub fn put_refused(text: &mut [u8], number: u32) -> usize
     requires { (11 ≤ length text.old) × (number < 1000000) }

@@ -74,7 +74,7 @@ fn play_columns(
     }
 }
 
-// How a fit ended, as one record to compare with. Only rejected fits have the numbers 1 to 13 and 26, and they have no summary.
+// How a fit ended, as one record to compare with. Only refused fits have the numbers 1 to 13 and 26, and they have no summary.
 fn ending_of(fit: Result<Fit, Refusal>) -> Finish {
     match fit {
         Ok(fit) => fit.finish,

@@ -10,7 +10,8 @@ pub struct Tally {
     pub lists: u64,
     pub turns: u64,
     pub differences: u64,
-    // Refusals by number, from 1 to 99, in arrays, since there is no heap for a map: of beginning and of the uninterrupted fit, and of turns; at 0 what ended well.
+    // Refusals by number, from 1 to 99, in arrays, since there is no heap for a map: of beginning and of the uninterrupted fit, and of
+    // turns; at 0 what ended well.
     pub fits: [u64; 100],
     pub turned: [u64; 100],
 }

@@ -1,16 +1,17 @@
 -- Lists filled one place after the other.
 use mathlib.Core.Path.{◌≡◌, refl, ◌∙◌}
 use mathlib.Core.Logic.{inl, inr}
-use mathlib.Core.List.{List}
+use mathlib.Core.List.{List, ◌++◌}
 use Prim.Native.Nat.{ℕ, ◌+◌, ◌≤◌, ◌<◌}
 use native.Mathlib.Nat.{not-suc-le-zero, eq-or-lt_of_le}
 use native.Mathlib.Omega.{arith}
-use lib.ListN.{length, get_or, set}
+use lib.ListN.{length, get_or, set, take, drop, take-append-drop}
+use Rattle.std.proofs.lemmas.List.{set-append_left}
 use lib.Seq.{get_or-set_same, get_or-set_other}
-use lib.Ieee.{Float, nan}
+use lib.Ieee.{Float, nan, binary64, add}
 use Rattle.real.specs.Fold.{range}
 use Rattle.real.specs.Reals.{zero64}
-use Rattle.real.proofs.Fold.{related}
+use Rattle.real.proofs.Fold.{Range, none, more, related}
 use Rattle.kernel.specs.declared.GwrKernel.{GwrKernel}
 use Rattle.weights.specs.Weights.{weigh_step}
 use Rattle.weights.specs.Near.{near_distance, near_weight, near_weights, kernel_over, trusted_over, Filled}
@@ -41,6 +42,16 @@ unfilled_all z j = record { at = λ i h. refl }
 
 pub unfilled_more : (z y : List Float) (j : ℕ) (x : Float) → Unfilled z j y → Unfilled z (j + 1) (set y j x)
 unfilled_more z y j x s = record { at = λ i h. get_or-set_other y j i x nan (λ same. not-suc-le-zero {n = 0} (omega (arith, h, same))) ∙ s.at i (omega (arith, h)) }
+
+-- ---- weights one by one with their sum, the first n of an array, with the others behind them
+module _ (v : ℕ → Float) where
+  pub unweighed : (n : ℕ) (w : List Float) → Range (weigh_step v) (w, zero64) 0 n 0 (take n w ++ drop n w, zero64)
+  unweighed n w = rw (take-append-drop n w) (none (omega arith))
+
+  pub weighed : {s : List Float × Float} {n j : ℕ} (front rest : List Float) (sum x : Float)
+      → Range (weigh_step v) s 0 n j (front ++ rest, sum) → j < n → j < length front → x ≡ v j → Range (weigh_step v) s 0 n (j + 1) (set front j x ++ rest, add binary64 sum x)
+  unfolding weigh_step
+  weighed {j = j} front rest sum x r h within e = more r h (rw (← set-append_left front rest j x within, e) refl)
 
 -- the weights over distances and kernel weights that were filled in before are those of the observations
 pub filled_weights : (k : GwrKernel) (coords trust : List Float) (n : ℕ) (east north b : Float) (d v w : List Float) → Filled (near_distance coords east north) n d → Filled (kernel_over k b d) n v → range (weigh_step (trusted_over v trust)) 0 n (w, zero64) ≡ near_weights k coords trust n east north b w

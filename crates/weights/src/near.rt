@@ -1,7 +1,7 @@
 // What makes the weights fast: no root beyond a kernel's reach; and where there is no reach all distances are guessed, then settled,
-// then weighed by the kernel, then by their trusts, each in a loop of its own: a guess waits for divisions, and an exponential keeps
-// no number in its register and leaves room for little beside it. Coordinates and trusts come one by one: the definitions take them so,
-// and nothing else of the problem is read.
+// then weighed by the kernel, then by their trusts, each in a loop of its own: a guess waits for divisions, and a call of exp takes
+// what a loop keeps in registers. Coordinates and trusts come one by one, since nothing else of the problem is read, and a struct of
+// the two would be made for one call.
 ghost use Rattle.std.specs.Prelude.{◌≡◌, ◌*◌, ◌≤◌, length};
 ghost use Rattle.kernel.specs.Reach.{Reach};
 ghost use Rattle.weights.specs.Near.{near_distance, near_weights, kernel_over, Filled};
@@ -56,11 +56,10 @@ pub fn weigh_all(
     settle_all(coords, place, &mut *y);
     kernel_all(kernel, b, &mut *y);
     let mut sum = 0.0;
-    // By an index: distances, trusts and weights stand side by side, and of what a zip writes a proof knows nothing afterwards.
-    for j in 0..trusts.len() {
-        let v = y[j] * trusts[j];
-        w[j] = v;
-        sum = sum + v;
+    // By numbers: of what a zip with distances and trusts writes a proof knows nothing afterwards.
+    for (j, v) in w[..trusts.len()].iter_mut().enumerate() {
+        *v = y[j] * trusts[j];
+        sum += *v;
     }
     sum
 }
@@ -81,12 +80,11 @@ pub fn weigh_within(
     ensures { (w.new, result) ≡ near_weights kernel coords.now trusts.now (length trusts.now) place.east place.north b w.old }
 {
     let mut sum = 0.0;
-    // By an index, as in `weigh_all`.
-    for j in 0..trusts.len() {
+    // By numbers, as in `weigh_all`.
+    for (j, v) in w[..trusts.len()].iter_mut().enumerate() {
         let s = place.squares(Place::at(coords, j));
-        let v = kernel.weight_within(s, b, reach) * trusts[j];
-        w[j] = v;
-        sum = sum + v;
+        *v = kernel.weight_within(s, b, reach) * trusts[j];
+        sum += *v;
     }
     sum
 }

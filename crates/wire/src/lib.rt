@@ -1,4 +1,4 @@
-// Numbers as 8 little-endian bytes, and reals by their bits. The functions have the names of the definitions that contracts cite.
+// Numbers as 8 little-endian bytes, and reals by their bits.
 #![tactic(auto)]
 
 ghost use Rattle.std.specs.Prelude.{◌≡◌, ◌++◌, ◌+◌, ◌*◌, ◌^◌, ◌≤◌, ◌<◌, length, take, drop};
@@ -39,7 +39,7 @@ pub fn store(s: &mut [u8], at: usize, v: u64)
     s[at..at + 8].copy_from_slice(&v.to_le_bytes());
 }
 
-// As many numbers of s as reals as there is room for them.
+// As many numbers of s, as reals, as there is room for.
 pub fn decode(s: &[u8], into: &mut [f64])
     requires { 8 * length into.old ≤ length s.now }
     ensures { into.new ≡ reals s.now (length into.old) }

@@ -7,4 +7,4 @@ use Rattle.measured.proofs.play.Given as goal
 
 abbrev pub invariant-loop-i : goal.invariant-loop-i
 invariant-loop-i l =
-    Range (turn_by l.columns l.allowance) (l.initial.k, l.initial.out) 0 l.turns l.i (l.k, l.out) × (length l.out ≡ length l.initial.out)
+    Range (turn_by l.columns l.allowance) (l.initial.k, l.initial.out) 0 l.turns l._i (l.k, l.out) × (length l.out ≡ length l.initial.out)

@@ -3,4 +3,4 @@ use Rattle.root.proofs.Squares.{Digits}
 use Rattle.root.proofs.plain.digits.Given as goal
 
 abbrev pub invariant-loop-i : goal.invariant-loop-i
-invariant-loop-i l = Digits l.a l.q l.rem l.c l.i
+invariant-loop-i l = Digits l.a l.q l.rem l.c l._i

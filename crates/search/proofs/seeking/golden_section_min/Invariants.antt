@@ -10,4 +10,4 @@ use Rattle.search.proofs.seeking.golden_section_min.Given as goal
 abbrev pub invariant-loop-round : goal.invariant-loop-round
 invariant-loop-round l =
     let p = l.problem in
-    Range (round_of p.setup p.columns) (opened_of p.setup p.columns (start_of l.lo l.hi)) 0 100 l.round l.s × (l.s.over ≡ false) × Remembered p.setup p.columns l.tried
+    Range (round_of p.setup p.columns) (opened_of p.setup p.columns (start_of l.lo l.hi)) 0 100 l._round l.s × (l.s.over ≡ false) × Remembered p.setup p.columns l.tried

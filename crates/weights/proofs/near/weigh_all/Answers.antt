@@ -2,17 +2,15 @@
 use borrow.Author.Rules.{rules}
 use lib.ListN.{length}
 use mathlib.Core.Path.{refl, ◌∙◌}
-use Rattle.real.proofs.Fold.{none, more, done}
-use Rattle.weights.specs.Weights.{weigh_step}
-use Rattle.weights.proofs.Fills.{filled_over, filled_weights}
+use Rattle.real.proofs.Fold.{done}
+use Rattle.weights.proofs.Fills.{unweighed, weighed, filled_over, filled_weights}
 use Rattle.weights.proofs.near.weigh_all.Goals as goal
 
 pub loop-j-init : goal.loop-j-init
-loop-j-init c = none (search rules)
+loop-j-init c = unweighed _ _ _
 
 pub loop-j-preserved : goal.loop-j-preserved
-unfolding weigh_step
-loop-j-preserved c = more c.loop-j.invariant (search rules) refl
+loop-j-preserved c = weighed _ c.loop-j.v-items _ _ _ c.loop-j.invariant (search rules) (search rules) refl
 
 pub returns : goal.returns
 returns c =

@@ -1,5 +1,6 @@
 -- `weights::near::weigh_all` meets its contract: its loop is the fold of `weigh_step`, over kernel weights made before it.
-use lib.ListN.{length}
+use mathlib.Core.List.{◌++◌}
+use lib.ListN.{length, drop}
 use Rattle.real.proofs.Fold.{Range}
 use Rattle.real.specs.Reals.{zero64}
 use Rattle.weights.specs.Weights.{weigh_step}
@@ -7,4 +8,4 @@ use Rattle.weights.specs.Near.{trusted_over}
 use Rattle.weights.proofs.near.weigh_all.Given as goal
 
 abbrev pub invariant-loop-j : goal.invariant-loop-j
-invariant-loop-j l = Range (weigh_step (trusted_over l.y l.trusts)) (l.initial.w, zero64) 0 (length l.trusts) l.j (l.w, l.sum)
+invariant-loop-j l = Range (weigh_step (trusted_over l.y l.trusts)) (l.fn.w, zero64) 0 (length l.trusts) l.j (l.v-items ++ drop (length l.trusts) l.fn.w, l.sum)
