@@ -26,8 +26,7 @@ pub use Rattle.estimate.proofs.Meanings.{weightless_means, inverse_not_finite_me
 pub use Rattle.estimate.proofs.Blind.{fit_blind}
 pub use Rattle.evaluate.proofs.Blind.{values_blind}
 pub use Rattle.estimate.proofs.NormalEquations.{exact_solves}
-pub use Rattle.row.proofs.Copies.{row_within}
-pub use Rattle.row.proofs.Rows.{row_long, put_long}
+pub use Rattle.row.proofs.Rows.{row_within, row_long, put_long}
 pub use Rattle.local.proofs.Lengths.{beta_eight}
 pub use Rattle.local.proofs.Refusals.{AtFit, AtLocation, OutcomeBy, OutcomeAt, location_at, weighed_at}
 pub use Rattle.criterion.proofs.Published.{published_exact, aicc_rounded, aicc_refused, aicc_exhausted, aicc_floored}

@@ -59,7 +59,8 @@ fn play(j: Job, columns: &Columns<'_>, out: &mut [f64], allowance: u32, turns: u
     ensures { (result, out.new) ≡ play_of columns.now allowance turns (j, out.old) }
 {
     let mut k = j;
-    // Nothing is indexed; the proof alone reads the number. A loop, since a proof knows nothing of what the closure of a fold wrote to the output.
+    // Nothing is indexed; the proof alone reads the number. A loop, since a proof knows nothing of what the closure of a fold wrote to
+    // the output.
     for _i in 0..turns {
         k = job::turn(k, columns, &mut *out, allowance).job;
     }

@@ -1,14 +1,18 @@
--- The output with a row put in is as long as before.
-use mathlib.Core.Path.{◌≡◌}
+-- Where the rows of an output stand, and that the output with a row put in is as long as before.
+use mathlib.Core.Path.{◌≡◌, sym}
 use mathlib.Core.List.{List}
 use Prim.Native.Nat.{ℕ, ◌+◌, ◌*◌, ◌≤◌, ◌<◌}
+use native.Mathlib.Nat.{le_trans, le_of_eq, suc-mul, mul-le-mul_right}
 use native.Mathlib.Omega.{arith}
 use lib.ListN.{length, length-append, length-drop}
 use lib.Seq.{length-take-le}
 use lib.Ieee.{Float}
 use Rattle.evaluate.specs.declared.Values.{Values}
 use Rattle.row.specs.Row.{row_of, put_row}
-use Rattle.row.proofs.Copies.{row_within}
+
+-- row i of n rows of k lies within them
+pub row_within : (i n k : ℕ) → i < n → i * k + k ≤ n * k
+row_within i n k h = le_trans (le_of_eq (sym (suc-mul i k))) (mul-le-mul_right k h)
 
 -- a row of m coefficients is m + 3 long
 pub row_long : (beta : List Float) (m : ℕ) (v : Values) → m ≤ length beta → length (row_of beta m v) ≡ m + 3

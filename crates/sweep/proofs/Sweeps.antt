@@ -3,8 +3,7 @@ use Rattle.std.specs.Prelude.{Result, Ok, Option, Some, None}
 use mathlib.Core.Path.{◌≡◌, refl, sym, ap, subst, subst⁻¹, ◌∙◌}
 use mathlib.Core.Bool.{Bool, true, false}
 use mathlib.Core.List.{List}
-use Prim.Native.Nat.{ℕ, ◌+◌, ◌*◌, ◌≤◌, ◌<◌}
-use native.Mathlib.Nat.{le_trans, le_of_eq, suc-mul, mul-le-mul_right}
+use Prim.Native.Nat.{ℕ, ◌≤◌}
 use native.Mathlib.Omega.{arith}
 use lib.Ieee.{Float}
 use Rattle.real.specs.Fold.{range}
@@ -24,12 +23,6 @@ pub pair : {A B : Type 0} {a c : A} {x y : B} → a ≡ c → x ≡ y → ◌≡
 pair p q = cc
 
 -- ---- the arms of the code
-
--- there is room for row i of n
-pub row_room : (n p i out : ℕ) → i < n → n * (p + 4) ≤ out → i * (p + 1 + 3) + (p + 1 + 3) ≤ out
-row_room n p i out h k =
-    let q : p + 1 + 3 ≡ p + 4 = omega arith in
-    rw q (le_trans (le_trans (le_of_eq (sym (suc-mul i (p + 4)))) (mul-le-mul_right (p + 4) h)) k)
 
 pub after_found : (s t r : Sweep) (o : Result Solved Refusal) (v : Solved) → o ≡ Ok v → t ≡ add_values s v.values → r ≡ next_location t
     → ◌≡◌ {A = Swept} (record { stopped = None; sweep = r }) (after_solve s o)

@@ -82,7 +82,7 @@ impl Swept {
 
 // Row i, where rows are written and the location was solved. Whether they are is told beside the output: no contract can name what an
 // Option of a lent slice holds after the call.
-#[tactic(auto, using(crate::proofs::Sweeps::row_room))]
+#[tactic(auto, using(row::proofs::Rows::row_within))]
 pub fn write_row(out: &mut [f64], rows: bool, u: Setup, i: usize, outcome: Result<Solved, Refusal>)
     requires sizes { (u.n ≤ 512) × (u.p ≤ 7) × (i < u.n) }
     requires room { RoomFor rows u (length out.old) }
