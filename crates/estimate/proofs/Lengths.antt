@@ -1,4 +1,4 @@
--- The coefficients, where they are found, are 8 numbers.
+-- The coefficients, where they are found, are 8 numbers; those that are lent are 8 in any case.
 use mathlib.Core.Path.{◌≡◌, refl, ◌∙◌}
 use Prim.Native.Nat.{ℕ}
 use native.Mathlib.Omega.{arith}
@@ -14,7 +14,7 @@ use Rattle.std.specs.Prelude.{Option, None, Some, Result, Ok, Err}
 use Rattle.refusal.specs.declared.Refusal.{Refusal}
 use Rattle.estimate.specs.declared.Coefficients.{Coefficients}
 use Rattle.estimate.specs.Inverse.{inverse_finite}
-use Rattle.estimate.specs.Estimate.{coefficients_finite, coefficient_step, coefficients_of, from_inverse, from_eliminated, coefficients_under, fit_coefficients}
+use Rattle.estimate.specs.Estimate.{coefficients_finite, coefficient_step, coefficients_of, from_inverse, from_eliminated, coefficients_under, fit_coefficients, left_by, put_into}
 
 -- those that were found
 abbrev pub Eight : Result Coefficients Refusal → Type 0
@@ -43,3 +43,15 @@ under_eight (Some a) rhs m = from_eight a rhs m
 pub fit_eight : (u : Setup) (d : Data) (w : Row) (sum : Float) → Eight (fit_coefficients u d w sum)
 unfolding coefficients_under fit_coefficients
 fit_eight u d w sum = either Eight (lt zero64 sum) _ _ (under_eight _ _ _) tt
+
+-- and those that are lent are 8 numbers in any case
+left_eight : (u : Setup) (d : Data) (w : Row) (sum : Float) → length (left_by u d w sum).beta ≡ 8
+unfolding left_by
+left_eight u d w sum = either (λ (c : Coefficients). length c.beta ≡ 8) (lt zero64 sum) _ _ refl refl
+
+put_by : (f : Result Coefficients Refusal) (left : Coefficients) → Eight f → length left.beta ≡ 8 → length (put_into f left).1.beta ≡ 8
+put_by (Ok c) left h k = h
+put_by (Err r) left h k = k
+
+pub put_eight : (u : Setup) (d : Data) (w : Row) (sum : Float) → length (put_into (fit_coefficients u d w sum) (left_by u d w sum)).1.beta ≡ 8
+put_eight u d w sum = put_by _ _ (fit_eight u d w sum) (left_eight u d w sum)

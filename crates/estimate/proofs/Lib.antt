@@ -3,3 +3,4 @@ pub mod Lengths
 pub mod NormalEquations
 pub mod Meanings
 pub mod Blind
+pub mod Lent

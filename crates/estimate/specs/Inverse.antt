@@ -1,5 +1,5 @@
 -- The inverse of a local fit's matrix, as 000's `invert_matrix` gives it, and whether it is finite. Definitions only.
-use Rattle.std.specs.Prelude.{ℕ, ◌+◌, ◌*◌, Bool, true, ◌&&◌, Option, [], get_or, Float}
+use Rattle.std.specs.Prelude.{ℕ, ◌+◌, ◌*◌, Bool, true, ◌&&◌, Option, Result, [], get_or, Float}
 use Rattle.std.specs.Float.{nan, binary64}
 use Rattle.std.specs.Float.Ieee.{add, mul}
 use Rattle.std.specs.Float.Ieee.Scale.{finite}
@@ -7,7 +7,11 @@ use Rattle.real.specs.Fold.{range}
 use Rattle.real.specs.Reals.{zero64}
 use Rattle.real.specs.Matrix.{Row, Matrix}
 use Rattle.normal.specs.Augmented.{augmented_matrix}
-use Rattle.gauss.specs.Gauss.{eliminated}
+use Rattle.gauss.specs.Gauss.{elimination, eliminated}
+
+-- the elimination of `invert_matrix(&a)`, of m rows: [A | I] eliminated, or as far as that came where a is singular
+unfoldable pub inversion : Matrix → ℕ → Result Matrix Matrix
+inversion a m = elimination (augmented_matrix a m) m (2 * m)
 
 -- `invert_matrix(&a)` up to its last check, of m rows: the eliminated [A | I], none where a is singular
 unfoldable pub invert_matrix : Matrix → ℕ → Option Matrix

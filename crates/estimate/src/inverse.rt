@@ -1,14 +1,15 @@
 // The inverse of the matrix of the normal equations: the right half of the eliminated matrix, of which m rows count.
 ghost use Rattle.std.specs.Prelude.{◌≡◌, ◌≤◌, ◌<◌};
-ghost use Rattle.estimate.specs.Inverse.{invert_matrix, inverse_times, inverse_finite};
+ghost use Rattle.estimate.specs.Inverse.{inversion, inverse_times, inverse_finite};
 
 use crate::inner::inner_product;
 
-// 000's `invert_matrix` of the matrix of m rows whose upper triangle is a, up to its last check: none where it is singular.
-#[tactic(auto, unfolding(crate::specs::Inverse::invert_matrix))]
-pub fn invert_matrix(a: &[[f64; 8]; 8], m: usize) -> Option<[[f64; 16]; 8]>
+// The elimination of 000's `invert_matrix`, of the matrix of m rows whose upper triangle is a: an Err where it is singular:
+// [A | I] as far as it was eliminated.
+#[tactic(auto, unfolding(crate::specs::Inverse::inversion))]
+pub fn invert_matrix(a: &[[f64; 8]; 8], m: usize) -> Result<[[f64; 16]; 8], [[f64; 16]; 8]>
     requires { m ≤ 8 }
-    ensures { result ≡ invert_matrix a.now m }
+    ensures { result ≡ inversion a.now m }
 {
     gauss::eliminate(normal::augmented_matrix(a, m), m, 2 * m)
 }

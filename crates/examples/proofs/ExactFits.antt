@@ -18,7 +18,7 @@ use Rattle.normal.specs.Design.{design_row, design_step}
 use Rattle.normal.specs.declared.equations.Equations.{Equations}
 use Rattle.normal.specs.Equations.{equations_of, normal_step, observe, observe_step, add_row, cell_step}
 use Rattle.normal.specs.Augmented.{mirrored_cell, mirror_step, augmented_row, augment_step, augmented_matrix}
-use Rattle.gauss.specs.Gauss.{eliminated, try_step, gauss_step, reduced, pivot_of, pivot_step, div_row, div_step, less_row, less_step, cleared, clear_step, clear_row, cell}
+use Rattle.gauss.specs.Gauss.{eliminated, elimination, try_step, gauss_step, reduced, pivot_of, pivot_step, div_row, div_step, less_row, less_step, cleared, clear_step, clear_row, cell}
 use Rattle.std.specs.Prelude.{Result, Ok, Err}
 use Rattle.refusal.specs.declared.Refusal.{Refusal}
 use Rattle.estimate.specs.declared.Coefficients.{Coefficients}
@@ -127,7 +127,7 @@ module _ (f : Family) where
       }
 
 computed : Computed mean_of_two × Computed line_of_three × Computed plane_of_four
-unfolding fit_coefficients coefficients_under eliminated_of from_eliminated equations_of from_inverse invert_matrix inverse_finite inverse_row_finite coefficients_finite coefficients_of coefficient_step all_below all_step inverse_times inverse_step inverse_cell eliminated try_step gauss_step reduced pivot_of pivot_step div_row div_step less_row less_step cleared clear_step clear_row cell normal_step observe observe_step add_row cell_step design_row design_step mirrored_cell mirror_step augmented_row augment_step augmented_matrix range magnitude of_int add sub mul div lt eq of_bits sum_below table moment_at square
+unfolding fit_coefficients coefficients_under eliminated_of from_eliminated equations_of from_inverse invert_matrix inverse_finite inverse_row_finite coefficients_finite coefficients_of coefficient_step all_below all_step inverse_times inverse_step inverse_cell eliminated elimination try_step gauss_step reduced pivot_of pivot_step div_row div_step less_row less_step cleared clear_step clear_row cell normal_step observe observe_step add_row cell_step design_row design_step mirrored_cell mirror_step augmented_row augment_step augmented_matrix range magnitude of_int add sub mul div lt eq of_bits sum_below table moment_at square
 computed = (
   record { same_fit = refl; same_matrix = refl; same_right = refl; same_product = refl; same_solution = refl },
   record { same_fit = refl; same_matrix = refl; same_right = refl; same_product = refl; same_solution = refl },

@@ -1,6 +1,7 @@
 -- 000's `invert_matrix` on rows of floats: its elimination, step by step. Definitions, and examples at the end.
 -- The augmented matrix `aug` has the columns 0 to m - 1 in use and the rows 0 to n - 1; for `invert_matrix` m is 2 * n.
-use Rattle.std.specs.Prelude.{ℕ, ◌+◌, ◌≡◌, true, cond, Option, None, Some, is_some, [], ◌∷◌, get_or, set, eqb, Float}
+use Rattle.std.specs.Prelude.{ℕ, ◌+◌, ◌≡◌, true, cond, Option, None, Some, is_some, Result, Ok, Err, [], ◌∷◌, get_or, set, eqb, Float}
+use Rattle.std.specs.Result.{result_ok}
 use Rattle.std.proofs.Math.Path.{refl}
 use Rattle.std.specs.Float.{nan, binary64}
 use Rattle.std.specs.Float.Ieee.{mul, sub, div, neg, lt, eq, of_bits}
@@ -64,18 +65,22 @@ reduced a i n m p =
     let row = get_or s i [] in
     cleared i n m (set s i (div_row (get_or row i nan) m row))
 
--- one turn of `for i in 0..n`: `return Err(..)` where `max_val < 1e-12`
-unfoldable pub gauss_step : Matrix → ℕ → ℕ → ℕ → Option Matrix
-gauss_step a i n m = cond (lt (pivot_of a i n).val least_pivot) None (Some (reduced a i n m (pivot_of a i n).row))
+-- one turn of `for i in 0..n`: `return Err(..)` where `max_val < 1e-12`, with `aug` as it is then
+unfoldable pub gauss_step : Matrix → ℕ → ℕ → ℕ → Result Matrix Matrix
+gauss_step a i n m = cond (lt (pivot_of a i n).val least_pivot) (Err a) (Ok (reduced a i n m (pivot_of a i n).row))
 
 -- the same unless a turn before has returned
-unfoldable pub try_step : ℕ → ℕ → ℕ → Option Matrix → Option Matrix
-try_step n m i None = None
-try_step n m i (Some a) = gauss_step a i n m
+unfoldable pub try_step : ℕ → ℕ → ℕ → Result Matrix Matrix → Result Matrix Matrix
+try_step n m i (Err a) = Err a
+try_step n m i (Ok a) = gauss_step a i n m
 
--- `for i in 0..n`, whole: `aug` at the end, none where the matrix is singular
+-- `for i in 0..n`, whole: `aug` at the end, or as far as it came where the matrix is singular
+unfoldable pub elimination : Matrix → ℕ → ℕ → Result Matrix Matrix
+elimination a n m = range (try_step n m) 0 n (Ok a)
+
+-- `aug` at the end, none where the matrix is singular
 unfoldable pub eliminated : Matrix → ℕ → ℕ → Option Matrix
-eliminated a n m = range (try_step n m) 0 n (Some a)
+eliminated a n m = result_ok (elimination a n m)
 
 -- ---- examples
 
@@ -92,13 +97,20 @@ module _ where
   singular_examples :
       (is_some (eliminated ((least_pivot ∷ (one64 ∷ [])) ∷ []) 1 2) ≡ true)
       × (eliminated ((of_bits binary64 0x3D71_9799_812D_EA10 ∷ (one64 ∷ [])) ∷ []) 1 2 ≡ None)
-  unfolding eliminated try_step gauss_step pivot_of range magnitude cell lt of_bits
+  unfolding eliminated elimination try_step gauss_step pivot_of range magnitude cell lt of_bits
   singular_examples = (refl, refl)
+
+  -- a singular matrix as far as it was eliminated: its first column is cleared, and the second has no pivot
+  left_singular :
+      let row = one64 ∷ (one64 ∷ []) in
+      elimination (row ∷ (row ∷ [])) 2 2 ≡ Err (row ∷ ((zero64 ∷ (zero64 ∷ [])) ∷ []))
+  unfolding elimination try_step gauss_step reduced pivot_of pivot_step div_row div_step cleared clear_step clear_row less_row less_step range magnitude cell lt eq div mul sub of_bits
+  left_singular = refl
 
   -- the inverse of the matrix that exchanges two rows
   exchanged :
       let top = zero64 ∷ (one64 ∷ (one64 ∷ (zero64 ∷ []))) in
       let low = one64 ∷ (zero64 ∷ (zero64 ∷ (one64 ∷ []))) in
       eliminated (top ∷ (low ∷ [])) 2 4 ≡ Some (low ∷ (top ∷ []))
-  unfolding eliminated try_step gauss_step reduced pivot_of pivot_step div_row div_step cleared clear_step clear_row range magnitude cell lt eq div of_bits
+  unfolding eliminated elimination try_step gauss_step reduced pivot_of pivot_step div_row div_step cleared clear_step clear_row range magnitude cell lt eq div of_bits
   exchanged = refl

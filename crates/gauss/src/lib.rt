@@ -5,7 +5,7 @@
 #![tactic(auto)]
 
 ghost use Rattle.std.specs.Prelude.{◌≡◌, ◌≤◌, ◌<◌};
-ghost use Rattle.gauss.specs.Gauss.{pivot_step, pivot_of, div_row, less_row, clear_row, cleared, reduced, eliminated};
+ghost use Rattle.gauss.specs.Gauss.{pivot_step, pivot_of, div_row, less_row, clear_row, cleared, reduced, elimination};
 
 // The row and the magnitude of a pivot.
 #[derive(Clone, Copy)]
@@ -109,18 +109,23 @@ fn reduce(a: &mut [[f64; 16]; 8], i: usize, n: usize, m: usize, p: usize)
     clear(&mut *a, i, n, m);
 }
 
-// The elimination over n rows and m columns, on one matrix in place: none where a pivot is below 1e-12, that is, the matrix is singular.
-pub fn eliminate(mut a: [[f64; 16]; 8], n: usize, m: usize) -> Option<[[f64; 16]; 8]>
+// The elimination over n rows and m columns, on one matrix in place: an Err where a pivot is below 1e-12, that is, the matrix is
+// singular: the matrix as far as it was eliminated.
+pub fn eliminate(
+    mut a: [[f64; 16]; 8],
+    n: usize,
+    m: usize,
+) -> Result<[[f64; 16]; 8], [[f64; 16]; 8]>
     requires { (n ≤ 8) × (m ≤ 16) }
-    ensures { result ≡ eliminated a n m }
+    ensures { result ≡ elimination a n m }
 {
     // An index: step i is about row and column i.
     for i in 0..n {
         let p = find_pivot(&a, i, n);
         if p.val < 1e-12 {
-            return None;
+            return Err(a);
         }
         reduce(&mut a, i, n, m, p.row);
     }
-    Some(a)
+    Ok(a)
 }

@@ -4,11 +4,12 @@ ghost use Rattle.setup.specs.Bandwidth.{Usable};
 ghost use Rattle.local.specs.Solve.{solve_local, solve_location};
 
 use crate::Solved;
+use estimate::Coefficients;
 use refusal::Refusal;
 use setup::{GwrBandwidth, Problem};
 
 // 000's `solve_local`, at bandwidth distance b.
-#[tactic(auto, using(checks::proofs::Tests::handed_on, estimate::proofs::Blind::fit_asks_no_trust, evaluate::proofs::Blind::values_ask_no_trust), unfolding(crate::specs::Solve::solved_by, crate::specs::Solve::solve_local))]
+#[tactic(auto, using(checks::proofs::Tests::handed_on, estimate::proofs::Lent::put_found, estimate::proofs::Lent::put_refused, estimate::proofs::Blind::fit_asks_no_trust, evaluate::proofs::Blind::values_ask_no_trust), unfolding(crate::specs::Solve::solved_by, crate::specs::Solve::solve_local))]
 fn solve_local(problem: &Problem<'_>, i: usize, b: f64) -> Result<Solved, Refusal>
     requires { i < problem.now.setup.n }
     ensures { result ≡ solve_local problem.now.setup problem.now.columns i b }
@@ -17,7 +18,8 @@ fn solve_local(problem: &Problem<'_>, i: usize, b: f64) -> Result<Solved, Refusa
     let mut w = [0.0; 512];
     let sum = weights::weigh(problem, problem.place(i), b, &mut w);
     let sample = problem.sample();
-    let fit = estimate::fit_coefficients(sample, &w, sum)?;
+    let mut fit = Coefficients::none();
+    estimate::fit_into(sample, &w, sum, &mut fit)?;
     let values = evaluate::values_at(sample, &w, i, &fit, sum);
     Ok(Solved {
         values,

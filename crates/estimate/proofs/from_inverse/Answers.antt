@@ -15,12 +15,12 @@ pub returns-then-not-all_finite : goal.returns-then-not-all_finite
 unfolding from_inverse
 returns-then-not-all_finite c =
     let s = c.args in
-    let tested = coefficients_tested (coefficients_of s.inverse s.rhs s.m) s.m (omega (arith, coefficients_eight s.inverse s.rhs s.m, c.requires)) in
+    let tested = coefficients_tested (coefficients_of s.inverse.now s.rhs s.m) s.m (omega (arith, coefficients_eight s.inverse.now s.rhs s.m, c.requires)) in
     sym (rw (← c.inverse_finite.ensures, c.if-not-inverse_finite.false, ← tested, ← c.coefficients_of-beta.ensures, ← c.all_finite.ensures, c.if-not-all_finite.true))
 
 pub returns : goal.returns
 unfolding from_inverse
 returns c =
     let s = c.args in
-    let tested = coefficients_tested (coefficients_of s.inverse s.rhs s.m) s.m (omega (arith, coefficients_eight s.inverse s.rhs s.m, c.requires)) in
+    let tested = coefficients_tested (coefficients_of s.inverse.now s.rhs s.m) s.m (omega (arith, coefficients_eight s.inverse.now s.rhs s.m, c.requires)) in
     sym (rw (← c.inverse_finite.ensures, c.if-not-inverse_finite.false, ← tested, ← c.coefficients_of-beta.ensures, ← c.all_finite.ensures, c.if-not-all_finite.false))
