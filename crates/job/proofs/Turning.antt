@@ -60,6 +60,9 @@ module _ (j : Job) (d : Data) (out : ℕ) where
       let s = held_live j b.0 ((fit_means j).0 (not-false _ a.0)) in
       (s, (lengths_shaped j.setup d s.sized).0 (not-false _ c.0), ltb-false _ _ e.0)
 
+  pub turn_usable : NoneOf tests → Usable j.bandwidth
+  turn_usable h = sound_usable (turn_passed h).0
+
 pub fit_live : (j : Job) → is_fit j ≡ true → is_ended j.stage ≡ false → Sound 0 j
 fit_live j e live = held_live j live ((fit_means j).0 e)
 
@@ -76,6 +79,11 @@ pub tell_is : (j : Job) (steps : ℕ) (r : Answer) → r ≡ answer_at j.stage j
 tell_is j steps r e = ap (λ (x : Answer). record { answer = x; steps = steps; job = j }) e
 
 -- ---- the loop of steps
+
+-- an allowance of none
+pub run_none : (j : Job) (d : Data) (out : List Float) (a : ℕ) (t : Turned) → a ≡ 0 → t ≡ tell_of j 0 → ◌≡◌ {A = Turned × List Float} (t, out) (run_of j d out a)
+unfolding run_of run
+run_none j d out a t e h = ap (λ (x : Turned). (x, out)) h ∙ sym (rw e)
 
 -- so many steps of the allowance have been made, and the job is at j with the output out
 pub record Reached (d : Data) (allowance : ℕ) (j₀ : Job) (out₀ : List Float) (left made : ℕ) (j : Job) (out : List Float) : Type 0 where

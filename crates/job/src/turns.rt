@@ -84,7 +84,7 @@ fn run(j: Job, problem: &Problem<'_>, out: &mut [f64], allowance: u32) -> Turned
 }
 
 // A turn: refused, or as many steps as the allowance and the end allow.
-#[tactic(auto, using(crate::proofs::Turning::turn_passed), unfolding(crate::specs::Turn::turn_of, checks::specs::Judge::ruled))]
+#[tactic(auto, using(crate::proofs::Turning::turn_passed, crate::proofs::Turning::turn_usable, crate::proofs::Turning::run_none), unfolding(crate::specs::Turn::turn_of, checks::specs::Judge::ruled))]
 pub fn turn(j: Job, columns: &Columns<'_>, out: &mut [f64], allowance: u32) -> Turned
     ensures { (result, out.new) ≡ turn_of j columns.now out.old allowance }
 {
@@ -94,6 +94,8 @@ pub fn turn(j: Job, columns: &Columns<'_>, out: &mut [f64], allowance: u32) -> T
             steps: 0,
             job: j,
         },
+        // No problem is posed for no step, which would cost the shortest turn a quarter of its time.
+        Ok(()) if allowance == 0 => tell(j, 0),
         Ok(()) => run(j, &Problem::pose(j.setup, columns), out, allowance),
     }
 }
