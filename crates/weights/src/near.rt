@@ -38,7 +38,9 @@ fn kernel_all(kernel: GwrKernel, b: f64, y: &mut [f64])
     }
 }
 
-// The weight of each observation, its trust included, in order, into w; answers their sum.
+// The weight of each observation, its trust included, in order, into w; answers their sum. A function of its own for the compiler too,
+// so that its array of distances stands on the stack only while it runs, and never where a kernel has a reach.
+#[inline(never)]
 pub fn weigh_all(
     coords: &[f64],
     trusts: &[f64],
