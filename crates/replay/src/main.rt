@@ -149,12 +149,14 @@ fn replay_record(stdin: &mut Stdin) -> Option<bool> {
 fn replay_all(mut stdin: Stdin) -> Tally {
     let mut records = 0u64;
     let mut agreed = 0u64;
+    let mut next = replay_record(&mut stdin);
     for _ in 0..1_000_000 {
-        let Some(agrees) = replay_record(&mut stdin) else {
+        let Some(agrees) = next else {
             break;
         };
         records = records.saturating_add(1);
         agreed = agreed.saturating_add(u64::from(agrees));
+        next = replay_record(&mut stdin);
     }
     Tally { records, agreed }
 }

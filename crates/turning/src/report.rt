@@ -6,7 +6,8 @@ use std::io;
 fn refusals(rt: &impl Print, word: &str, counts: &[u64; 100]) -> io::Result<()> {
     for (k, v) in counts.iter().enumerate() {
         if 0 < *v {
-            println!(rt; "{word} that answered {k}: {v}")?;
+            print!(rt; "{word} that answered {k}")?;
+            println!(rt; ": {v}")?;
         }
     }
     Ok(())
