@@ -12,18 +12,18 @@ use lib.Dec.{ltb}
 use Rattle.counts.specs.Count.{root_from, ceil_root, LeastRoot}
 
 -- the square of no number below r reaches n
-record Raising (n r : ℕ) : Type 0 where
-  below : (s : ℕ) → s < r → s * s < n
-  high : r ≤ n
+pub record Raising (n r : ℕ) : Type 0 where
+  pub below : (s : ℕ) → s < r → s * s < n
+  pub high : r ≤ n
 
-square_above : (r : ℕ) → r ≤ r * r
+pub square_above : (r : ℕ) → r ≤ r * r
 square_above zero = omega arith
 square_above (suc r) = le-mul_of_pos_right (suc r) (omega arith)
 
-raising : (n : ℕ) → Raising n 0
+pub raising : (n : ℕ) → Raising n 0
 raising n = record { below = λ s h. absurd (not-suc-le-zero h); high = omega arith }
 
-higher : {n r : ℕ} → Raising n r → r * r < n → Raising n (r + 1)
+pub higher : {n r : ℕ} → Raising n r → r * r < n → Raising n (r + 1)
 higher {n} {r} p h = record { below = go; high = omega (arith, square_above r) }
   where
     the_le : (s : ℕ) → s < r + 1 → s ≤ r
@@ -36,7 +36,7 @@ higher {n} {r} p h = record { below = go; high = omega (arith, square_above r) }
           | inr g ↦ p.below s g
         ]
 
-root_from_least : (n m r : ℕ) → Raising n r → n ≤ r + m → LeastRoot n (root_from n m r)
+pub root_from_least : (n m r : ℕ) → Raising n r → n ≤ r + m → LeastRoot n (root_from n m r)
 unfolding root_from
 root_from_least n zero r p h = record { reaches = omega (arith, square_above r); least = p.below }
 root_from_least n (suc m) r p h = go (ltb (r * r) n) refl (λ q. root_from_least n m (suc r) q (omega arith))

@@ -21,14 +21,14 @@ module _ (l a d b w : List ℕ) (m n k : ℕ) (room : 41000 ≤ length l) (head 
   few : n ≤ k
   few = omega (arith, rest.0, rest.1, length-take (40 + k - 40) w)
 
-  both_most : m + n ≤ 41000
+  pub both_most : m + n ≤ 41000
   both_most = omega (arith, head.0, full, few, more.1)
 
   abbrev got : List ℕ → List ℕ
   got s = take (m + n) (take 40 (a ++ d) ++ (b ++ s))
 
   -- no byte is read that is not asked for
-  read_is : (s : List ℕ) → read_of (got s) ≡ got s
+  pub read_is : (s : List ℕ) → read_of (got s) ≡ got s
   read_is s = go (ltb m 40) refl
     where
       front : take 40 (a ++ d) ≡ a

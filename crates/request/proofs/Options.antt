@@ -24,7 +24,7 @@ abbrev Choice : Type 0
 Choice = Result GwrOptions Refusal
 
 -- the options of a kernel that was read
-abbrev options_with : Kernel → ℕ → ℕ → Choice
+abbrev pub options_with : Result GwrKernel Refusal → ℕ → ℕ → Result GwrOptions Refusal
 options_with k kind bandwidth = cond (is_unknown_kernel k) (Err UnknownNumber) (kind_of (named_kernel k) kind bandwidth)
 
 -- ---- 18

@@ -221,10 +221,10 @@ module _ (a g r : ℕ) (high : a < 2 ^ 54 - 1) (e : r + g * g ≡ a * 2 ^ 52 + 2
       s = ap (λ (x : ℕ). x * x) (sym k) ∙ sq_next (g - 1)
 
 -- 1 where m is below n, else 0
-is_one : (m n : ℕ) → m < n → from_bool (ltb m n) ≡ 1
+pub is_one : (m n : ℕ) → m < n → from_bool (ltb m n) ≡ 1
 is_one m n h = rw (lt-ltb m n h)
 
-is_none : (m n : ℕ) → n ≤ m → from_bool (ltb m n) ≡ 0
+pub is_none : (m n : ℕ) → n ≤ m → from_bool (ltb m n) ≡ 0
 is_none m n h = rw (le-ltb m n h)
 
 pub one_at_most : (m n : ℕ) {u : ℕ} → u ≡ from_bool (ltb m n) → u ≤ 1
