@@ -8,16 +8,18 @@ ghost use Rattle.counts.specs.Count.{ceil_root, chosen_count, resolve_count};
 // The least whole number whose square is at least n.
 #[tactic(auto, using(crate::proofs::Roots::root_reached, crate::proofs::Roots::root_passed))]
 fn ceil_root(n: usize) -> usize
+    requires { n ≤ 512 }
     ensures { result ≡ ceil_root n }
 {
-    let r = n.isqrt();
+    // Of 16 bits, since the library halves as often as half the bits of its number, whatever that is.
+    let r = usize::from((n as u16).isqrt());
     if r * r < n { r + 1 } else { r }
 }
 
 // The count where none is given: the larger of p + 3 and the least whole number whose square is at least n.
 #[tactic(auto, unfolding(crate::specs::Count::chosen_count))]
 fn chosen_count(k: usize, n: usize, p: usize) -> usize
-    requires { p ≤ 7 }
+    requires { (n ≤ 512) × (p ≤ 7) }
     ensures { result ≡ chosen_count k n p }
 {
     if k == 0 { (p + 3).max(ceil_root(n)) } else { k }
